@@ -3,7 +3,6 @@
 #![tactic(auto)]
 
 mod answers;
-mod bucket_list;
 mod copies;
 mod load;
 mod look;
@@ -16,5 +15,4 @@ mod settle;
 mod tally;
 
 pub use answers::{CopyFault, Loaded, Saved};
-pub use bucket_list::BucketList;
 pub use copies::Copies;

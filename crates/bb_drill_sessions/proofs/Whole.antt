@@ -11,6 +11,7 @@ use Rattle.bb_flash.specs.Image.{Image}
 use Rattle.bb_flash.specs.Memory.{Memory, device_of}
 use Rattle.bb_flash.specs.declared.geometry.Geometry.{Geometry}
 use Rattle.bb_flash.specs.declared.plan.Plan.{Plan as StartPlan}
+use Rattle.bb_layout.specs.Kept.{IsLaid}
 use Rattle.bb_plan.specs.Plan.{EarlyEnd, SessionPlan, first_area}
 use Rattle.bb_plan.specs.Refusal.{status_of}
 use Rattle.bb_plan.specs.declared.refusal.Refusal.{Refusal}
@@ -172,10 +173,11 @@ module _ (plan : SessionPlan) (before after : Memory) (geometry : before.geometr
     started = start;
   }
 
-  pub table_is : unwrap_or (first_found (passed_in plan.keyed board_geometry.page Y)) (first_area plan.keyed.layout)
+  pub table_is : IsLaid plan.keyed.layout →
+      unwrap_or (first_found (passed_in plan.keyed board_geometry.page Y)) (first_area plan.keyed.layout)
       ≡ made_by plan (unwrap_or Held (first_area plan.keyed.layout))
-  table_is =
-      table_after plan board_geometry.page X Y
+  table_is facts =
+      table_after plan board_geometry.page X Y facts
       (has_copies plan (device_of before) (device_of after) (Ok found) answers Sound Held work) alike
 
 -- ---- the session of a command
@@ -184,19 +186,19 @@ abbrev TableIs : Option Keyed → Result SessionPlan EarlyEnd → Image → Imag
 TableIs keyed plan x y =
     unwrap_or (table_found keyed y) (table_first keyed) ≡ table_made plan (unwrap_or (table_found keyed x) (table_first keyed))
 
-whole_session : (command : DrillCommand) (plan : SessionPlan) → drill_plan command ≡ Ok plan → (before after : Memory) →
+whole_session : (command : DrillCommand) (plan : SessionPlan) → drill_plan command ≡ Ok plan → IsLaid plan.keyed.layout → (before after : Memory) →
     before.geometry ≡ board_geometry → (found : Option (List ℕ)) (answers : WorkAnswers) →
     IsWork plan (device_of before) (device_of after) (Ok found) answers → NothingFailed before after →
     HasMemory (work_session plan (Ok found) answers) →
     IsWholeSession session_rules session_runs command (board_state_of before) (board_state_of after)
-whole_session command plan is before after geometry found answers work calm memory = record {
+whole_session command plan is facts before after geometry found answers work calm memory = record {
   ran =
       subst (λ (p : Result SessionPlan EarlyEnd). IsFollowedSound p (board_state_of before) (board_state_of after)) (sym is)
       (followed_sound plan before after geometry found answers work calm memory);
   table =
       subst (λ (k : Option Keyed). TableIs k (drill_plan command) before.told.image after.told.image) (sym (on_board command plan is).keyed)
       (subst (λ (p : Result SessionPlan EarlyEnd). TableIs (Some plan.keyed) p before.told.image after.told.image) (sym is)
-      (table_is plan before after geometry found answers work calm memory));
+      (table_is plan before after geometry found answers work calm memory facts));
 }
 
 ends_sound : (command : DrillCommand) (x y : BoardState) (status : Status) → is_device_fault status ≡ false →
@@ -227,20 +229,20 @@ given_status : (session : Session) (given : Result Report Refusal) → Gives ses
 given_status session (Ok report) gives = ap (λ r. option_map_or status_of r statuses.Done) gives.1
 given_status session (Err refusal) gives = ap (λ r. option_map_or status_of r statuses.Done) gives.1
 
-done_sound : (command : DrillCommand) (plan : SessionPlan) → drill_plan command ≡ Ok plan → (before after : Memory) →
+done_sound : (command : DrillCommand) (plan : SessionPlan) → drill_plan command ≡ Ok plan → IsLaid plan.keyed.layout → (before after : Memory) →
     before.geometry ≡ board_geometry → (load : LoadAnswer) (answers : WorkAnswers) →
     IsWork plan (device_of before) (device_of after) load answers → NothingFailed before after → (given : Result Report Refusal) →
     Gives (work_session plan load answers) given →
     EndsSound session_rules session_runs command (board_state_of before) (board_state_of after) (end_given given)
-done_sound command plan is before after geometry (Err fault) answers work calm given gives =
+done_sound command plan is facts before after geometry (Err fault) answers work calm given gives =
     let whole = unrefused plan (device_of before) (device_of after) (Err fault) answers work calm.calls in
     absurd (let h : true ≡ false = sym (fault_device fault) ∙ whole in cc)
-done_sound command plan is before after geometry (Ok found) answers work calm given gives =
+done_sound command plan is facts before after geometry (Ok found) answers work calm given gives =
     let none = unrefused plan (device_of before) (device_of after) (Ok found) answers work calm.calls in
     subst (λ (s : Status). EndsSound session_rules session_runs command (board_state_of before) (board_state_of after) (end_of_status s))
     (given_status (work_session plan (Ok found) answers) given gives)
     (ends_sound command (board_state_of before) (board_state_of after) (ended_status (work_session plan (Ok found) answers)) none
-    (λ memory. whole_session command plan is before after geometry found answers work calm memory))
+    (λ memory. whole_session command plan is facts before after geometry found answers work calm memory))
 
 -- where memory was refused nothing is said
 short_sound : (command : DrillCommand) (x y : BoardState) (given : Result Report Refusal) → given ≡ Err refusals.NoMemory →
@@ -248,13 +250,13 @@ short_sound : (command : DrillCommand) (x y : BoardState) (given : Result Report
 short_sound command x y given is =
     subst (λ (r : Result Report Refusal). EndsSound session_rules session_runs command x y (end_given r)) (sym is) tt
 
-pub sound_of : (command : DrillCommand) (plan : SessionPlan) → drill_plan command ≡ Ok plan → (before after : Memory) →
+pub sound_of : (command : DrillCommand) (plan : SessionPlan) → drill_plan command ≡ Ok plan → IsLaid plan.keyed.layout → (before after : Memory) →
     before.geometry ≡ board_geometry → (given : Result Report Refusal) →
     IsWorkedOut plan.keyed plan.work (device_of before) (device_of after) given → NothingFailed before after →
     EndsSound session_rules session_runs command (board_state_of before) (board_state_of after) (end_given given)
-sound_of command plan is before after geometry given (inl done) calm =
-    done_sound command plan is before after geometry done.load done.answers done.work calm given done.gives
-sound_of command plan is before after geometry given (inr (inl text)) calm =
+sound_of command plan is facts before after geometry given (inl done) calm =
+    done_sound command plan is facts before after geometry done.load done.answers done.work calm given done.gives
+sound_of command plan is facts before after geometry given (inr (inl text)) calm =
     short_sound command (board_state_of before) (board_state_of after) given text.is
-sound_of command plan is before after geometry given (inr (inr memory)) calm =
+sound_of command plan is facts before after geometry given (inr (inr memory)) calm =
     short_sound command (board_state_of before) (board_state_of after) given memory.is

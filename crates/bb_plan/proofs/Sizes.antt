@@ -1,5 +1,6 @@
--- The area of a plan's layout has one length: in its defaults, in what its copies pass, and in what
--- a boot is bound to; and no two variables to which a boot is bound share a byte of it.
+-- The area of a plan's layout has one length: in the table of an empty device, in what its copies
+-- pass, and in what a boot is bound to; and no two variables to which a boot is bound share a byte
+-- of it.
 use Rattle.std.proofs.Common.{◌≡◌, ◌&&◌, ℕ, ◌+◌, ◌≤◌, Bool, true, false, not, List, [], ◌∷◌, length, Option, Some, None, Result, Ok, Err, IfOk, All, cond, nat_lt, ok_or, refl, subst, arith}
 use Rattle.std.specs.Prelude.{⊤, map}
 use Rattle.std.proofs.lemmas.Bool.Decides.{nat_tests}
@@ -33,7 +34,7 @@ use Rattle.bb_layout.specs.declared.layout_error.LayoutError.{LayoutError}
 use Rattle.bb_layout.specs.declared.layout_error.LayoutError.TheVariants.{AreaTooLong, NameTwice, NoState, Overlap}
 use Rattle.bb_layout.specs.declared.var.Var.{Var}
 use Rattle.bb_layout.proofs.Apart.{share_no_byte}
-use Rattle.bb_layout.proofs.Outside.{defaults_length}
+use Rattle.bb_layout.proofs.Converting.{convert_length}
 use Rattle.bb_layout.proofs.RangeFacts.{ends_inside, names_apart, ranges_apart}
 use Rattle.bb_layout.proofs.WellFormed.{all_well_formed}
 use Rattle.bb_script.specs.Script.{script_of}
@@ -131,7 +132,7 @@ laid_at tree name state geometry found e =
     let storage = step_of stored _ found region.next_is in
     let formed = all_well_formed state vars.value vars.step_is in
     let are = area_is vars.value area.value formed area.step_is in
-    let defaults = defaults_length area.value vars.value are.0 in
+    let defaults = convert_length area.value vars.value [] are.0 in
     subst (IsLaidOn geometry) (ok_is _ found storage.next_is)
     (record { defaults = defaults; vars = are.0; short = are.1 }, refl)
 

@@ -1,12 +1,12 @@
 -- What a session is to do on the device, or why it is refused before: one reading for each command,
 -- by its words and the device's geometry.
-use Rattle.std.specs.Prelude.{◌≡◌, ℕ, Bool, length, List, ⊤, None, Result, Ok, Err}
+use Rattle.std.specs.Prelude.{◌≡◌, ℕ, Bool, length, List, [], ⊤, None, Result, Ok, Err}
 use Rattle.bb_actions.specs.Actions.{AreBoundTo}
 use Rattle.bb_actions.specs.declared.bound_action.BoundAction.{BoundAction}
 use Rattle.bb_base.specs.Folder.{FileMap}
 use Rattle.bb_chooser.specs.Binding.{Binding, IsBoundTo}
 use Rattle.bb_flash.specs.declared.geometry.Geometry.{Geometry}
-use Rattle.bb_layout.specs.Defaults.{defaults_of}
+use Rattle.bb_layout.specs.Convert.{convert}
 use Rattle.bb_layout.specs.Layout.{Laid, fields_of}
 use Rattle.bb_layout.specs.Results.{result_and_then}
 use Rattle.bb_layout.specs.Thirds.{raw_layout}
@@ -179,9 +179,9 @@ IsRefusedWith answer (Err (Printed text)) = ⊥
 IsRefusedWith answer (Err (Drilled numbers)) = ⊥
 IsRefusedWith answer (Err (Refused refusal)) = status_of refusal ≡ answer
 
--- the area that an empty device stands for
+-- the table of a device on which nothing is stored: what the layout reads of the empty area
 abbrev pub first_area : Laid → List ℕ
-first_area layout = defaults_of layout.area_len layout.vars
+first_area layout = convert layout []
 
 -- ---- a plan as the code has it
 

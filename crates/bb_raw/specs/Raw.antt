@@ -14,13 +14,13 @@ use Rattle.std.specs.Prelude.{ℕ, ◌+◌, ◌%◌, ◌^◌, ◌==◌, Bool, fa
 use Rattle.std.specs.Str.{bytes_eq}
 use Rattle.byteorder.specs.Endian.{little_number, little_bytes}
 use Rattle.bb_base.specs.Crc.{crc_of}
-use Rattle.bb_base.specs.Form.{Form}
+use Rattle.bb_base.specs.Form.{Form, area_limit}
 use Rattle.bb_hmac.specs.Hmac.{hmac_of}
 
--- which raw record: its magic, its area's length, and the block of its key, if it has one
+-- which raw record: its magic, and the block of its key, if it has one; its area may have any
+-- length that its header can say
 pub record RawKind : Type 0 where
   pub magic : ℕ
-  pub area_len : ℕ
   pub key : Option (List ℕ)
 
 -- At a place stand the `len` low bytes of a number. These are all of it: a magic and a CRC have 32
@@ -71,41 +71,47 @@ abbrev pub raw_text : RawKind → List ℕ → List ℕ
 raw_text kind area = coded_text kind.magic area ++ hmac_text kind.key (coded_text kind.magic area)
 
 -- how many bytes it has, by how many the area has
-abbrev pub length_of : RawKind → ℕ → ℕ
-length_of kind len = header_len + len + code_len kind.key
-
-abbrev pub raw_length : RawKind → ℕ
-raw_length kind = length_of kind kind.area_len
+abbrev pub raw_length : RawKind → ℕ → ℕ
+raw_length kind len = header_len + len + code_len kind.key
 
 -- ---- what passes
 
--- the header is of this kind, and its check holds
-abbrev pub header_agrees : ℕ → ℕ → List ℕ → Bool
-header_agrees magic area_len bytes =
-    has_field 4 0 magic bytes && has_field 2 6 area_len bytes
-    && has_field 4 12 (crc_of (take 12 bytes)) bytes
+-- how many bytes the area has, as the header says
+abbrev pub data_len : List ℕ → ℕ
+data_len bytes = little_number 2 (drop 6 bytes) % 256 ^ 2
 
--- the area's check holds
+-- the header has this magic, and its check holds
+abbrev pub header_agrees : ℕ → List ℕ → Bool
+header_agrees magic bytes =
+    has_field 4 0 magic bytes && has_field 4 12 (crc_of (take 12 bytes)) bytes
+
+-- the check of an area of this length holds
 abbrev pub area_agrees : ℕ → List ℕ → Bool
 area_agrees area_len bytes = has_field 4 8 (crc_of (area_of area_len bytes)) bytes
 
--- there is a whole record of this kind, and its checks hold
-abbrev pub raw_agrees : RawKind → List ℕ → Bool
-raw_agrees kind bytes =
-    nat_le (raw_length kind) (length bytes) && header_agrees kind.magic kind.area_len bytes
-    && area_agrees kind.area_len bytes && has_code kind.key (header_len + kind.area_len) bytes
+-- there are enough bytes for a record of an area of this length, and its checks hold
+abbrev pub raw_agrees : RawKind → ℕ → List ℕ → Bool
+raw_agrees kind area_len bytes =
+    nat_le (raw_length kind area_len) (length bytes) && header_agrees kind.magic bytes
+    && area_agrees area_len bytes && has_code kind.key (header_len + area_len) bytes
 
--- the area that bytes pass as, if they do; what follows the record doesn't count
+-- the area of this length that bytes pass as, if they do
+abbrev pub passes_as_long : RawKind → ℕ → List ℕ → Option (List ℕ)
+passes_as_long kind area_len bytes =
+    if raw_agrees kind area_len bytes then Some (area_of area_len bytes) else None
+
+-- The area that bytes pass as, if they do: it is as long as the header says. What follows the
+-- record doesn't count.
 abbrev pub raw_passes : RawKind → List ℕ → Option (List ℕ)
-raw_passes kind bytes = if raw_agrees kind bytes then Some (area_of kind.area_len bytes) else None
+raw_passes kind bytes = passes_as_long kind (data_len bytes) bytes
 
 -- the raw record as a format, in which nothing is old
 abbrev pub raw_form : RawKind → Form
 raw_form kind = record {
-  area_len = kind.area_len;
-  length_of = length_of kind;
-  reach = raw_length kind;
-  fits = λ area. length area == kind.area_len;
+  area_len = area_limit;
+  length_of = raw_length kind;
+  reach = raw_length kind area_limit;
+  fits = λ area. nat_le (length area) area_limit;
   text = raw_text kind;
   passes = raw_passes kind;
   aged = λ bytes. false;

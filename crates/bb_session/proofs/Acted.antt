@@ -17,7 +17,8 @@ use Rattle.bb_plan.specs.Plan.{SessionPlan}
 use Rattle.bb_plan.specs.declared.plan.Work.{Work}
 use Rattle.bb_plan.specs.declared.plan.Work.TheVariants.{Show}
 use Rattle.bb_plan.specs.declared.refusal.Refusal.{Refusal}
-use Rattle.bb_session.specs.Session.{LoadAnswer, acts_after, ended_by, loaded_area, refusal_at_end, rounds_after, session_by_acts, text_after, work_session, work_text}
+use Rattle.bb_session.specs.Session.{LoadAnswer, acts_after, ended_by, loaded_area, refusal_at_end, rounds_after, session_by_acts, shown, text_after, work_session, work_text}
+use Rattle.bb_session.specs.Doing.{session_on}
 use Rattle.bb_session.specs.Work.{IsLookWork, IsPlayOf, IsTableWork, IsWork}
 use Rattle.bb_session.proofs.Plays.{plays_to}
 
@@ -85,7 +86,7 @@ acted_rounds plan found acts answers =
 -- its rounds are those that come of its answers
 pub session_after : (plan : SessionPlan) (found : Option (List ℕ)) (answers : WorkAnswers) →
     (work_session plan (Ok found) answers).rounds ≡ rounds_after plan found answers
-session_after plan found answers = acted_rounds plan found (acts_after plan found) answers
+session_after plan found answers = acted_rounds plan (shown plan.keyed.layout found) (acts_after plan found) answers
 
 module _ {plan : SessionPlan} {from to : Device} {found : Option (List ℕ)} {answers : WorkAnswers}
     (work : IsTableWork plan from to (Ok found) answers) where
@@ -114,17 +115,17 @@ look_rounds plan (Ok found) answers is =
 
 -- one on a table hangs on the table alone
 pub table_session : (plan : SessionPlan) (found : Option (List ℕ)) (answers : WorkAnswers) → needs_table plan.work ≡ true →
-    work_session plan (Ok found) answers ≡ work_session plan (Ok (Some (loaded_area plan.keyed.layout found))) answers
+    work_session plan (Ok found) answers ≡ session_on plan.keyed plan.work (loaded_area plan.keyed.layout found) answers
 table_session plan found answers needs = by (acts_after plan found)
   where
-    texts : (rounds : List Round) → text_after plan found rounds ≡ text_after plan (Some (loaded_area plan.keyed.layout found)) rounds
+    texts : (rounds : List Round) → text_after plan (shown plan.keyed.layout found) rounds ≡ text_after plan (Some (loaded_area plan.keyed.layout found)) rounds
     texts rounds =
         let text = work_text plan.keyed.layout plan.work (loaded_area plan.keyed.layout found) rounds in
-        ap (λ n. if n then text else look_text found) needs
+        ap (λ n. if n then text else look_text (shown plan.keyed.layout found)) needs
         ∙ sym (ap (λ n. if n then text else look_text (Some (loaded_area plan.keyed.layout found))) needs)
 
     by : (acts : Acts) →
-        session_by_acts plan found acts answers ≡ session_by_acts plan (Some (loaded_area plan.keyed.layout found)) acts answers
+        session_by_acts plan (shown plan.keyed.layout found) acts answers ≡ session_by_acts plan (Some (loaded_area plan.keyed.layout found)) acts answers
     by (Stops bar) = refl
     by (Plays script known) = refl
     by acts =

@@ -42,6 +42,7 @@ use Rattle.bb_plan.specs.declared.refusal.Refusal.{Refusal}
 use Rattle.bb_session.specs.Session.{Session, ended_by, loaded_area, session_by_acts, text_after, worked_on}
 use Rattle.bb_session.specs.Work.{IsLoaded, IsLoadedArea, IsPlayOf, IsReportOf, IsRunAfter, IsWorkedOut, area_taken}
 use Rattle.bb_session.specs.declared.report.Report.{Report}
+use Rattle.bb_layout.specs.Convert.{convert}
 use Rattle.bb_session.proofs.Acted.{as_work, rounds_back, table_session}
 use Rattle.bb_session.proofs.Kept.{load_area}
 use Rattle.bb_session.proofs.Worked.{refused_ends, text_ends, worked_out}
@@ -53,15 +54,16 @@ pub done_later : (keyed : Keyed) (used : Option ℕ) (table : List ℕ) (work : 
 done_later keyed used table work from mid to answers ran later =
     later_joined from mid to later (rounds_later keyed (start_plans_of work) ran.rounds (kept_before work table) used ran.now mid to ran.run)
 
-pub done_out : (keyed : Keyed) (work : Work) (from mid to : Device) (table : List ℕ) (loaded : Loaded)
+pub done_out : (keyed : Keyed) (work : Work) (from mid to : Device) (area table : List ℕ) (loaded : Loaded)
     (given : Result Report Refusal) → from.geometry ≡ keyed.layout.geometry → needs_table work ≡ true → 2 ≤ keyed.layout.copies →
-    IsLoadedArea keyed table loaded from mid → IsLoaded keyed (used_after loaded) from mid (Ok (area_taken table loaded)) →
+    IsLoadedArea keyed area loaded from mid → table ≡ convert keyed.layout area →
+    IsLoaded keyed (used_after loaded) from mid (Ok (area_taken area loaded)) →
     IsDone keyed (used_after loaded) table work mid to given → IsWorkedOut keyed work from to given
-done_out keyed work from mid to table loaded given geometry needs many gave load did =
-    let found = area_taken table loaded in
+done_out keyed work from mid to area table loaded given geometry needs many gave shows load did =
+    let found = area_taken area loaded in
     let plan : SessionPlan = record { keyed = keyed; work = work } in
     let here : IsDone keyed (used_after loaded) (loaded_area keyed.layout found) work mid to given =
-    subst (λ (t : List ℕ). IsDone keyed (used_after loaded) t work mid to given) (sym (load_area keyed table loaded from mid gave)) did in
+    subst (λ (t : List ℕ). IsDone keyed (used_after loaded) t work mid to given) (shows ∙ sym (load_area keyed area loaded from mid gave)) did in
     worked_out keyed work from to (Ok found) here.answers given
     (as_work plan from to (Ok found) here.answers needs
     (record { middle = mid; used = used_after loaded; geometry = geometry; many = many; loaded = load; ran = here.ran }))

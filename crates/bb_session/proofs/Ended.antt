@@ -25,7 +25,7 @@ use Rattle.bb_plan.specs.declared.status.Status.TheVariants as statuses
 use Rattle.bb_session.specs.Acting.{Acts, BootsFrom, LostPlace, NoneBest, Plays, Stops, TableBar, WorkAnswers, bar_refusal, play_of, rounds_for, start_plans_of}
 use Rattle.bb_session.specs.Booting.{end_refusal}
 use Rattle.bb_session.specs.Scripting.{refusal_by_end}
-use Rattle.bb_session.specs.Session.{LoadAnswer, acts_after, ended_by, ended_status, rounds_after, session_by_acts, text_after, work_session, worked_on}
+use Rattle.bb_session.specs.Session.{LoadAnswer, acts_after, ended_by, ended_status, rounds_after, session_by_acts, shown, text_after, work_session, worked_on}
 use Rattle.bb_session.proofs.Barred.{is_device_fault}
 
 -- ---- a fact about each refusal
@@ -93,12 +93,12 @@ session_has : (P : Refusal → Type 0) → ((bar : TableBar) → P (bar_refusal 
 session_has P bar failed scripts plan found answers refused refusal h = by (acts_after plan found) refused h
   where
     by : (acts : Acts) → ((f : CopyFault) → refused_in (rounds_for (start_plans_of plan.work) acts answers) ≡ Some f → P (copy_refusal f)) →
-        (session_by_acts plan found acts answers).refusal ≡ Some refusal → P refusal
+        (session_by_acts plan (shown plan.keyed.layout found) acts answers).refusal ≡ Some refusal → P refusal
     by (Plays script known) refused h =
         let play = play_of script known answers in
         script_has P scripts (course_end play) (refused_in (course_at play).outside.rounds) refused refusal h
     by acts refused h =
-        worked_has P bar plan found (rounds_for (start_plans_of plan.work) acts answers) refused acts
+        worked_has P bar plan (shown plan.keyed.layout found) (rounds_for (start_plans_of plan.work) acts answers) refused acts
         (λ targets table round name is last fails. failed name) refusal h
 
 -- a fault of the device is that for which the last save was refused

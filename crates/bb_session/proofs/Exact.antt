@@ -184,7 +184,7 @@ module _ (keyed : Keyed) (from mid : Device) (calm : NothingFails from mid) (fir
     (e : from.told ≡ Some first) (f : mid.told ≡ Some last) where
   taken_left : (area : List ℕ) (loaded : Loaded) → IsLoadedArea keyed area loaded from mid →
       IsLoadedTo keyed from.geometry (area_taken area loaded) (account_of first) (account_of last)
-  taken_left area (Copy used live) found =
+  taken_left area (Copy used live len old) found =
       let form = laid_form keyed in
       let page = from.geometry.page in
       let erases = found.erases calm in

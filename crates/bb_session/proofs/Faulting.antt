@@ -135,16 +135,16 @@ module _ (plan : SessionPlan) (from : Device) where
   pub load_known : (used : Option ℕ) (to : Device) (answers : WorkAnswers) (fault : CopyFault) → IsLoaded plan.keyed used from to (Err fault) →
       IsKnown plan from to (Err fault) answers fault
   load_known used to answers ReadFault loaded =
-      record { tells = (loaded.fails.fails.cause, loaded.fails.fails.read); explains = loaded.fails.fails.content }
+      record { tells = (loaded.fails.cause, loaded.fails.read); explains = loaded.fails.content }
   load_known used to answers (WriteFault copy) loaded =
-      let fails = loaded.fails.fails in
-      let area = loaded.fails.area in
+      let fails = loaded.fails in
+      let area = fails.area in
       stuck_known (Err (WriteFault copy)) answers area copy from to
       (λ image e.
       let entry = fails.entry image e in
       sym (found_first [] area (passed_in plan.keyed page image) entry.some (entry.first [])))
       (later_refl from) fails.stuck
-  load_known used to answers Unsure loaded = absurd loaded.fails.fails
+  load_known used to answers Unsure loaded = absurd loaded.fails
 
   -- of a save of this area, after a load that answered Ok and what came after it, with `used` in
   -- use

@@ -49,13 +49,13 @@ use Rattle.bb_session.proofs.Faulting.{Explains, IsKnown, IsThere, copies_are, l
 
 loaded_there : (keyed : Keyed) (from to : Device) (area : List ℕ) (loaded : Loaded) → IsLoadedArea keyed area loaded from to →
     IsThere keyed (used_after loaded)
-loaded_there keyed from to area (Copy used live) gave copy is =
+loaded_there keyed from to area (Copy used live len old) gave copy is =
     omega (arith, same_Some used copy is, gave.gives.exit.inside, copies_are keyed)
 loaded_there keyed from to area NoCopy gave copy is = absurd cc
 
 -- where it took no copy none was found
 nothing_taken : (area : List ℕ) (loaded : Loaded) → used_after loaded ≡ None → area_taken area loaded ≡ None
-nothing_taken area (Copy used live) none = absurd cc
+nothing_taken area (Copy used live len old) none = absurd cc
 nothing_taken area NoCopy none = refl
 
 -- ---- the last round, whose save was refused

@@ -19,7 +19,7 @@ use Rattle.bb_shell.specs.Boot.{Round}
 use Rattle.bb_shell.specs.Sequence.{refused_in}
 use Rattle.bb_session.specs.Acting.{Acts, LostPlace, NoneBest, Plays, TableBar, WorkAnswers, bar_refusal, play_of, rounds_for, start_plans_of}
 use Rattle.bb_session.specs.Scripting.{is_starved, refusal_by_end}
-use Rattle.bb_session.specs.Session.{Answers, LoadAnswer, Session, acts_after, end_by_acts, ended_status, granted_all, session_by, session_by_acts, work_session, worked_on}
+use Rattle.bb_session.specs.Session.{Answers, LoadAnswer, Session, acts_after, end_by_acts, ended_status, granted_all, session_by, session_by_acts, shown, work_session, worked_on}
 use Rattle.bb_session.proofs.Barred.{fault_device, is_device_fault}
 use Rattle.bb_session.proofs.Ended.{worked_has}
 
@@ -106,7 +106,7 @@ plan_front (Err end) answers = all_first (session_by (Err end) answers).rounds
 plan_front (Ok plan) answers = by answers.load
   where
     by : (load : LoadAnswer) → ComeFirst (work_session plan load answers.work).rounds (work_session plan load (record answers.work { grants = None })).rounds
-    by (Ok found) = acted_front plan found (acts_after plan found) answers.work
+    by (Ok found) = acted_front plan (shown plan.keyed.layout found) (acts_after plan found) answers.work
     by (Err fault) = all_first []
 
 -- ---- the end that has the status

@@ -5,7 +5,8 @@ use Rattle.std.proofs.lemmas.Option.{same_Some}
 use Rattle.std.specs.Option.{ForSome, option_and_then}
 use Rattle.bb_base.specs.Faults.{Rose}
 use Rattle.bb_chooser.specs.Binding.{Binding}
-use Rattle.bb_copies.specs.StandsFor.{EachPassesOrNothing}
+use Rattle.bb_state.proofs.Showing.{all_show}
+use Rattle.bb_state.specs.Shows.{EachShowsOrNothing}
 use Rattle.bb_copies.specs.declared.answers.CopyFault.{CopyFault}
 use Rattle.bb_flash.specs.Device.{Device, LeavesStarts, Told, content}
 use Rattle.bb_flash.specs.declared.plan.Plan.{Plan as StartPlan}
@@ -27,7 +28,7 @@ use Rattle.bb_plan.specs.declared.refusal.Refusal.{Refusal}
 use Rattle.bb_plan.specs.declared.status.Status.TheVariants as statuses
 use Rattle.bb_session.specs.Acting.{Acts, AreBootRounds, AreRoundsOf, LostPlace, NoneBest, Plays, TableBar, WorkAnswers, acts_of, bar_refusal, kept_before, play_of, rounds_for, saves_always, start_plans_of}
 use Rattle.bb_session.specs.Looking.{passed_in}
-use Rattle.bb_session.specs.Session.{LoadAnswer, acts_after, loaded_area, rounds_after, session_by_acts, work_session, worked_on}
+use Rattle.bb_session.specs.Session.{LoadAnswer, acts_after, loaded_area, rounds_after, session_by_acts, shown, work_session, worked_on}
 use Rattle.bb_session.specs.Work.{IsTableWork, IsWork}
 use Rattle.bb_session.proofs.Acted.{by_work, look_rounds, ran_of, session_after, session_rounds}
 use Rattle.bb_session.proofs.Barred.{fault_device, is_device_fault}
@@ -84,11 +85,11 @@ work_started plan from to load answers work =
 
 -- ---- a start comes after its save
 
--- after these rounds every copy passes their last table or nothing
+-- after these rounds every copy passes an area that shows their last table, or nothing
 abbrev pub PassAfter : SessionPlan → Option (List ℕ) → Device → Device → List Round → Type 0
 PassAfter plan found from to rounds =
     ForSome (content to)
-    (λ image. EachPassesOrNothing (table_after (loaded_area plan.keyed.layout found) rounds) (passed_in plan.keyed from.geometry.page image))
+    (λ image. EachShowsOrNothing plan.keyed.layout (table_after (loaded_area plan.keyed.layout found) rounds) (passed_in plan.keyed from.geometry.page image))
 
 table_stored : (plan : SessionPlan) (from to : Device) (found : Option (List ℕ)) (answers : WorkAnswers) →
     (work : IsTableWork plan from to (Ok found) answers) → started_last work.ran.rounds ≡ true → PassAfter plan found from to work.ran.rounds
@@ -103,10 +104,10 @@ table_stored plan from to found answers work started = λ image at_to.
     let first = there (λ (t : Told). t.image) mid.told from.told middle.0 (sym work.loaded.later.told) middle.1 in
     let left = loaded_left keyed work.used found from mid first.0 middle.0 work.loaded.gives first.1 middle.1 keyed.layout.geometry.page at_page in
     let here = did.stored (started_unrefused rounds started) middle.0 middle.1 image at_to
-    (kept_has (λ t. EachPassesOrNothing t (laid_passings keyed middle.0)) (saves_always plan.work) table
-    (subst (λ t. EachPassesOrNothing t (laid_passings keyed middle.0)) left.table left.each)) in
-    subst (λ p. EachPassesOrNothing (table_after table rounds) (passed_in keyed p image)) (sym at_page)
-    (subst (λ k. HoldsKept k (laid_passings keyed image)) (started_kept (kept_before plan.work table) table rounds started) here)
+    (kept_has (λ t. EachShowsOrNothing keyed.layout t (laid_passings keyed middle.0)) (saves_always plan.work) table
+    (all_show keyed.layout _ table (laid_passings keyed middle.0) left.table left.each)) in
+    subst (λ p. EachShowsOrNothing keyed.layout (table_after table rounds) (passed_in keyed p image)) (sym at_page)
+    (subst (λ k. HoldsKept keyed.layout k (laid_passings keyed image)) (started_kept (kept_before plan.work table) table rounds started) here)
 
 pub work_stored : (plan : SessionPlan) (from to : Device) (found : Option (List ℕ)) (answers : WorkAnswers) → IsWork plan from to (Ok found) answers →
     started_last (work_session plan (Ok found) answers).rounds ≡ true → PassAfter plan found from to (work_session plan (Ok found) answers).rounds
@@ -184,5 +185,5 @@ work_cause plan from to (Ok found) answers work refusal h failed =
     subst (λ (r : List Round). FailsBy plans (last_round r) from to) (sym same)
     (acted_cause plans (rounds_after plan found answers) from to
     (subst (λ (r : List Round). RaisedBy (failed_starts r) from.start_faults to.start_faults) same
-    (work_started plan from to (Ok found) answers work).rose) plan found (acts_after plan found) answers
+    (work_started plan from to (Ok found) answers work).rose) plan (shown plan.keyed.layout found) (acts_after plan found) answers
     (subst (AreRoundsOf plans (acts_after plan found)) same (work_rounds plan from to found answers work)) refl refusal h failed)

@@ -35,7 +35,7 @@ use Rattle.bb_plan.specs.declared.status.Status.TheVariants.{Done}
 use Rattle.bb_session.specs.Acting.{Acts, ArePlayedRounds, AreRoundsOf, BootsFrom, Plays, SavesOnce, Stops, WorkAnswers, most_rounds, play_of, rounds_for, sound_answers, start_plans_of}
 use Rattle.bb_session.specs.Looking.{first_found, passed_in}
 use Rattle.bb_session.specs.Scripting.{refusal_by_end}
-use Rattle.bb_session.specs.Session.{LoadAnswer, Session, acts_after, answers_after, ended_by, played_session, refusal_at_end, session_by_acts, text_after, work_session, worked_on}
+use Rattle.bb_session.specs.Session.{LoadAnswer, Session, acts_after, answers_after, ended_by, played_session, refusal_at_end, session_by_acts, shown, text_after, work_session, worked_on}
 use Rattle.bb_session.specs.Work.{IsLoadedAs, IsPlay, IsPlayOf, IsTableWork, IsWork, IsWorkedOut}
 use Rattle.bb_session.proofs.Acted.{acts_stop, by_work, ran_of, rounds_back, session_after}
 use Rattle.bb_session.proofs.Barred.{HasMemory, HasNoFault, fault_device, is_device_fault, is_memory}
@@ -103,7 +103,7 @@ module _ {plan : SessionPlan} {from to : Device} {found : Option (List ℕ)} {an
     (work : IsTableWork plan from to (Ok found) answers) where
   pub rounds_saved : HasNoFault (work_session plan (Ok found) answers) → AllSaved work.ran.rounds
   rounds_saved whole =
-      acted_saved plan found (acts_after plan found) answers work.ran.rounds work.ran.answers_are work.ran.are work.ran.played whole
+      acted_saved plan (shown plan.keyed.layout found) (acts_after plan found) answers work.ran.rounds work.ran.answers_are work.ran.are work.ran.played whole
 
 -- each answered Ok
 abbrev pub AllMade : List RoundAnswer → Type 0
@@ -242,7 +242,7 @@ pub work_same : (plan : SessionPlan) (from to : Device) (found : Option (List �
 work_same plan from to found answers work whole memory calm =
     by_work plan from to (Ok found) answers work
     (λ needs done.
-    acted_same plan found (acts_after plan found) answers done.ran.rounds done.ran.answers_are done.ran.are done.ran.played
+    acted_same plan (shown plan.keyed.layout found) (acts_after plan found) answers done.ran.rounds done.ran.answers_are done.ran.are done.ran.played
     (rounds_saved done whole)
     (elim calm [
       | inl unstarted ↦ inl (sym (ap target_started (session_after plan found (answers_after plan (Ok found)))) ∙ unstarted)

@@ -17,7 +17,8 @@ use Rattle.bb_state.specs.Kinds.{laid_kinds}
 use Rattle.bb_shell.specs.Boot.{Round}
 use Rattle.bb_shell.specs.Counting.{turn_of_rounds}
 use Rattle.bb_shell.proofs.Joins.{outside_joined, still_outside}
-use Rattle.bb_plan.specs.Plan.{SessionPlan, first_area}
+use Rattle.bb_plan.specs.Plan.{SessionPlan}
+use Rattle.bb_shell.specs.Stages.{first_area}
 use Rattle.bb_plan.specs.declared.plan.Work.{Work}
 use Rattle.bb_session.specs.Acting.{WorkAnswers, kept_before, needs_table, saves_always, start_plans_of}
 use Rattle.bb_session.specs.Looking.{passed_in}
@@ -32,7 +33,7 @@ use Rattle.bb_session.proofs.Turns.{Stays, counts_now, load_stays, order, standi
 record IsTurned (keyed : Keyed) (page : ℕ) (from to : Device) (turn : List (Option ℕ) → Turn)
     (first last : Told) (before : Content) : Type 0 where
   leads : IsFairRun keyed page first last →
-      LeadsTo (first_area keyed.layout) before (turn before.marks) (passed_in keyed page last.image)
+      LeadsTo first_area before (turn before.marks) (passed_in keyed page last.image)
   trail : HasTrail keyed page from to first last before (turn before.marks)
 
 -- of each content at entry, on a device with pages of this size
@@ -42,7 +43,7 @@ TurnedAt page keyed from to turn =
     (λ first.
     ForSome to.told
     (λ last.
-    (before : Content) → before.passed ≡ passed_in keyed page first.image → IsStanding (first_area keyed.layout) before →
+    (before : Content) → before.passed ≡ passed_in keyed page first.image → IsStanding first_area before →
     IsTurned keyed page from to turn first last before))
 
 abbrev Turned : Keyed → Device → Device → (List (Option ℕ) → Turn) → Type 0

@@ -12,9 +12,9 @@ use Rattle.bb_shell.specs.Running.{IsSaveRun}
 use Rattle.bb_plan.specs.declared.plan.Work.{Work}
 use Rattle.bb_plan.specs.declared.plan.Work.TheVariants.{Act, Good, Write}
 use Rattle.bb_plan.specs.Refusal.{copy_refusal}
-use Rattle.bb_session.specs.Acting.{Acts, SavesOnce, WorkAnswers, refusal_by_table}
+use Rattle.bb_session.specs.Acting.{Acts, SavesOnce, WorkAnswers, acts_of, refusal_by_table}
 use Rattle.bb_session.specs.Marking.{good_text}
-use Rattle.bb_session.specs.Session.{Session, work_session}
+use Rattle.bb_session.specs.Session.{Session, session_by_acts}
 use Rattle.bb_session.specs.Work.{Gives, IsRunAfter, SendsByMemory}
 use Rattle.bb_plan.specs.declared.refusal.Refusal.{Refusal}
 use Rattle.bb_plan.specs.declared.refusal.Refusal.TheVariants as refusals
@@ -29,7 +29,8 @@ pub record IsAtHand (state : State) (device : Device) : Type 0 where
 -- its session after a load of this table
 abbrev pub session_on : Keyed → Work → List ℕ → WorkAnswers → Session
 session_on keyed work table answers =
-    work_session (record { keyed = keyed; work = work }) (Ok (Some table)) answers
+    session_by_acts (record { keyed = keyed; work = work }) (Some table)
+    (acts_of keyed.layout work table) answers
 
 -- a session was given, or memory was refused for what was to be sent of it
 abbrev pub EndsWith : Session → Result Report Refusal → Type 0

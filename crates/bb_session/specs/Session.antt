@@ -1,7 +1,7 @@
 -- What a session answers: the text that its work gathered, the refusal that ended it, if one did,
 -- and the rounds that it ran. It is a function of the words, the device's geometry, and what the
 -- files and the device answered.
-use Rattle.std.specs.Prelude.{ℕ, List, [], Option, Some, None, Result, Ok, Err, unwrap_or, if◌then◌else◌}
+use Rattle.std.specs.Prelude.{ℕ, List, [], Option, Some, None, Result, Ok, Err, option_map, unwrap_or, if◌then◌else◌}
 use Rattle.std.specs.Option.{option_map_or}
 use Rattle.bb_actions.specs.Actions.{actions_text, after_all}
 use Rattle.bb_base.specs.Folder.{FileMap}
@@ -10,7 +10,7 @@ use Rattle.bb_copies.specs.declared.answers.CopyFault.{CopyFault}
 use Rattle.bb_drill.specs.declared.counts.DrillCounts.{DrillCounts}
 use Rattle.bb_flash.specs.declared.geometry.Geometry.{Geometry}
 use Rattle.bb_flash.specs.Image.{Image}
-use Rattle.bb_layout.specs.Defaults.{defaults_of}
+use Rattle.bb_layout.specs.Convert.{convert}
 use Rattle.bb_layout.specs.Layout.{Laid}
 use Rattle.bb_session.specs.Acting.{Acts, BootsFrom, Plays, Stops, WorkAnswers, acts_of, bar_refusal, needs_table, no_answers, play_of, refusal_by_table, rounds_for, sound_answers, start_plans_of}
 use Rattle.bb_session.specs.DrillLine.{drill_line}
@@ -34,7 +34,8 @@ use Rattle.bb_plan.specs.declared.status.Status.TheVariants.{Done}
 
 -- ---- what is answered to a session
 
--- of the load, or of the look: the area of the first copy that passes, if one does
+-- of the load, or of the look: the area of the first copy that passes, as long as it is stored, if
+-- one passes
 abbrev pub LoadAnswer : Type 0
 LoadAnswer = Result (Option (List ℕ)) CopyFault
 
@@ -69,9 +70,18 @@ ended_status session = option_map_or status_of session.refusal Done
 
 -- ---- the work of a plan
 
--- the area that a load gives: where no copy passed it is the layout's defaults
+-- what was found, as the layout reads it
+abbrev pub shown : Laid → Option (List ℕ) → Option (List ℕ)
+shown layout found = option_map (convert layout) found
+
+-- the table that is shown: where no copy passed it is that of the empty area, which are the
+-- defaults
+abbrev pub table_of : Laid → Option (List ℕ) → List ℕ
+table_of layout shown = unwrap_or shown (convert layout [])
+
+-- the table that a load gives, by the area that it found
 abbrev pub loaded_area : Laid → Option (List ℕ) → List ℕ
-loaded_area layout found = unwrap_or found (defaults_of layout.area_len layout.vars)
+loaded_area layout found = table_of layout (shown layout found)
 
 -- the text that a work on a loaded table sends where no save was refused
 abbrev pub work_text : Laid → Work → List ℕ → List Round → List ℕ
@@ -92,18 +102,18 @@ ended_by None text refusal rounds = record { text = text; refusal = refusal; rou
 ended_by (Some fault) text refusal rounds =
     record { text = []; refusal = Some (copy_refusal fault); rounds = rounds }
 
--- a look sends what it found
+-- a look sends what it shows
 abbrev pub text_after : SessionPlan → Option (List ℕ) → List Round → List ℕ
-text_after plan found rounds =
+text_after plan shown rounds =
     if needs_table plan.work
-    then work_text plan.keyed.layout plan.work (loaded_area plan.keyed.layout found) rounds
-    else look_text found
+    then work_text plan.keyed.layout plan.work (table_of plan.keyed.layout shown) rounds
+    else look_text shown
 
 -- work that was to do this after a load that answered Ok, and ran these rounds
 abbrev pub worked_on : SessionPlan → Option (List ℕ) → Acts → List Round → Session
-worked_on plan found (Stops bar) rounds = refused_for (bar_refusal bar)
-worked_on plan found acts rounds =
-    ended_by (refused_in rounds) (text_after plan found rounds) (refusal_at_end acts rounds) rounds
+worked_on plan shown (Stops bar) rounds = refused_for (bar_refusal bar)
+worked_on plan shown acts rounds =
+    ended_by (refused_in rounds) (text_after plan shown rounds) (refusal_at_end acts rounds) rounds
 
 -- a script's session: it has what its play sent, and ends as its play did
 abbrev pub played_session : Course Played (Unit {0}) → Session
@@ -115,12 +125,12 @@ played_session play =
       rounds = rounds;
     }
 
--- by what it was answered
+-- by the table that was shown, if one was, and by what the work was answered
 abbrev pub session_by_acts : SessionPlan → Option (List ℕ) → Acts → WorkAnswers → Session
-session_by_acts plan found (Plays script known) answers =
+session_by_acts plan shown (Plays script known) answers =
     played_session (play_of script known answers)
-session_by_acts plan found acts answers =
-    worked_on plan found acts (rounds_for (start_plans_of plan.work) acts answers)
+session_by_acts plan shown acts answers =
+    worked_on plan shown acts (rounds_for (start_plans_of plan.work) acts answers)
 
 abbrev pub acts_after : SessionPlan → Option (List ℕ) → Acts
 acts_after plan found = acts_of plan.keyed.layout plan.work (loaded_area plan.keyed.layout found)
@@ -132,7 +142,7 @@ rounds_after plan found answers =
 
 abbrev pub work_session : SessionPlan → LoadAnswer → WorkAnswers → Session
 work_session plan (Ok found) answers =
-    session_by_acts plan found (acts_after plan found) answers
+    session_by_acts plan (shown plan.keyed.layout found) (acts_after plan found) answers
 work_session plan (Err fault) answers = refused_for (copy_refusal fault)
 
 -- why the table that was loaded ends the session before any save, where it does

@@ -4,7 +4,7 @@ use Rattle.std.specs.Prelude.{◌≡◌, ◌≢◌, ◌⊎◌, ℕ, ◌≤◌, L
 use Rattle.std.specs.Option.{ForSome}
 use Rattle.bb_base.specs.Faults.{counted}
 use Rattle.bb_bucket.specs.Calls.{IsQuiet}
-use Rattle.bb_copies.specs.Loading.{KeepsOutside, LoadGives, LoadImages, LoadsErasing, LoadsExactly}
+use Rattle.bb_copies.specs.Loading.{KeepsOutside, LoadGives, LoadImages, LoadSays, LoadsErasing, LoadsExactly}
 use Rattle.bb_copies.specs.Store.{used_after}
 use Rattle.bb_copies.specs.declared.answers.CopyFault.TheVariants.{ReadFault}
 use Rattle.bb_copies.specs.declared.answers.Loaded.{Loaded}
@@ -23,7 +23,7 @@ use Rattle.bb_script_commands.specs.Scripts.{EndsBy}
 use Rattle.bb_shell.specs.Rounds.{answer_of}
 use Rattle.bb_shell.specs.Running.{AreRun}
 use Rattle.bb_state.specs.Kinds.{laid_form, laid_kinds}
-use Rattle.bb_state.specs.State.{IsDefault, IsRefused}
+use Rattle.bb_state.specs.State.{IsRefused}
 use Rattle.bb_session.specs.Acting.{Acts, AreRoundsOf, Plays, WorkAnswers, acts_of, kept_before, needs_table, no_answers, start_plans_of}
 use Rattle.bb_session.specs.Looking.{first_found, passed_in}
 use Rattle.bb_shell.specs.declared.boot_end.BootEnd.{BootEnd}
@@ -50,16 +50,16 @@ pub record IsLooked (keyed : Keyed) (from to : Device) (answer : LoadAnswer) : T
 
 -- ---- a load
 
--- the area that was taken, if one was
+-- the stored area that was taken, if one was
 abbrev pub area_taken : List ℕ → Loaded → Option (List ℕ)
-area_taken area (Copy used live) = Some area
+area_taken area (Copy used live len old) = Some area
 area_taken area NoCopy = None
 
--- a load found a copy of this area, or no copy and this area's defaults
+-- a load found a copy of this area, as long as it is stored, or no copy and the empty area
 pub record IsLoadedArea (keyed : Keyed) (area : List ℕ) (loaded : Loaded) (from to : Device)
     : Type 0 where
   pub gives : LoadGives (laid_form keyed) (laid_kinds keyed.layout) area from to loaded
-  pub defaults : IsDefault keyed.layout area loaded
+  pub says : LoadSays (laid_form keyed) area loaded
   pub exact : LoadsExactly (laid_form keyed) (laid_kinds keyed.layout) area from to loaded
   pub erases : LoadsErasing (laid_form keyed) (laid_kinds keyed.layout) area from to loaded
 

@@ -41,7 +41,7 @@ fair_from L told since later order fair = λ call change from before made lucky.
 
 module _ (keyed : Keyed) where
   abbrev First : List ℕ
-  First = first_area keyed.layout
+  First = first_area
 
   abbrev Page : ℕ
   Page = keyed.layout.geometry.page

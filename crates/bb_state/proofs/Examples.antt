@@ -116,10 +116,10 @@ in_strides format key = record {
 abbrev jefe : List ℕ
 jefe = codes "Jefe" ++ replicate 60 0
 
-no_hmac : (laid_form (in_strides Raw None)).reach ≡ 17
+no_hmac : (laid_form (in_strides Raw None)).reach ≡ 65551
 no_hmac = refl
 
-an_hmac : (laid_form (in_strides RawHmac (Some jefe))).reach ≡ 49
+an_hmac : (laid_form (in_strides RawHmac (Some jefe))).reach ≡ 65583
 an_hmac = refl
 
 key_there : FitsKey RawHmac (Some jefe)

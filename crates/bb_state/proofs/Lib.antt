@@ -1,6 +1,7 @@
 -- Lemmas.
 pub mod Blank
 pub mod Examples
+pub mod Families
 pub mod Fitting
 pub mod Handed
 pub mod Lists
@@ -8,4 +9,5 @@ pub mod Mounting
 pub mod NamedVars
 pub mod Rooms
 pub mod Sets
+pub mod Showing
 pub mod Tables

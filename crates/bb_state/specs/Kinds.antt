@@ -1,7 +1,7 @@
 -- The kinds of buckets and of formats, and which of them the copies of a layout have under its key.
-use Rattle.std.specs.Prelude.{ℕ, ◌-◌, min, List, Option, None, map}
+use Rattle.std.specs.Prelude.{ℕ, ◌-◌, ◌==◌, ◌&&◌, Bool, length, min, List, Option, None, map}
 use Rattle.std.specs.List.{range_with_len}
-use Rattle.bb_base.specs.Form.{Form, IsForm}
+use Rattle.bb_base.specs.Form.{Form, IsForm, area_limit}
 use Rattle.bb_flash.specs.Image.{Image}
 use Rattle.bb_flash.specs.declared.geometry.Geometry.{Geometry}
 use Rattle.bb_flash.specs.declared.region.Region.{Region}
@@ -21,7 +21,8 @@ use Rattle.bb_dtbrec.specs.Layouts.{layout_pattern}
 use Rattle.bb_raw.specs.Laws.{raw_laws}
 use Rattle.bb_raw.specs.Raw.{raw_form}
 use Rattle.bb_layout.specs.Copies.{region_of}
-use Rattle.bb_layout.specs.Layout.{Laid, laid_len}
+use Rattle.bb_layout.specs.Formats.{record_len}
+use Rattle.bb_layout.specs.Layout.{Laid, recorded_of}
 use Rattle.bb_layout.specs.declared.format_kind.FormatKind.{FormatKind}
 use Rattle.bb_layout.specs.declared.format_kind.FormatKind.TheVariants as formats
 use Rattle.bb_layout.specs.declared.storage.Storage.{Storage}
@@ -99,18 +100,29 @@ buckets_for len layout =
     (bucket_at layout.geometry layout.storage layout.region len)
     (range_with_len 0 layout.copies)
 
--- those for the records of the layout, and their kinds
+-- how many bytes the longest area has that records of a format keep: raw records keep areas of any
+-- length, and blobs those of their layout
+abbrev pub longest_area : FormatKind → ℕ → ℕ
+longest_area formats.Raw area_len = area_limit
+longest_area formats.RawHmac area_len = area_limit
+longest_area formats.Dtb area_len = area_len
+
+-- how many bytes the longest record has that the copies of a layout may hold
+abbrev pub longest_len : Laid → ℕ
+longest_len l = record_len l.format (recorded_of l) (longest_area l.format l.area_len)
+
+-- those for the longest record, and their kinds: all layouts of a family have the same
 abbrev pub laid_buckets : Laid → List AnyBucket
-laid_buckets layout = buckets_for (laid_len layout) layout
+laid_buckets layout = buckets_for (longest_len layout) layout
 
 abbrev pub laid_kinds : Laid → List BucketKind
 laid_kinds layout = kinds_of any_holding (laid_buckets layout)
 
 -- ---- of a layout with its key
 
--- raw records of its magic and area, under a key or none
+-- raw records of its magic, under a key or none
 abbrev pub raw_under : Option (List ℕ) → Laid → AnyFormat
-raw_under key layout = Raw (record { magic = layout.magic; area_len = layout.area_len; key = key })
+raw_under key layout = Raw (record { magic = layout.magic; key = key })
 
 -- records of that format
 abbrev pub format_for : FormatKind → Keyed → AnyFormat
@@ -124,6 +136,10 @@ format_of keyed = format_for keyed.layout.format keyed
 
 abbrev pub laid_form : Keyed → Form
 laid_form keyed = any_form (format_of keyed)
+
+-- whether an area is a table of the layout: it has the layout's length, and can be kept as a record
+abbrev pub is_table : Keyed → List ℕ → Bool
+is_table keyed area = length area == keyed.layout.area_len && (laid_form keyed).fits area
 
 -- the block of the key of such records, if they stand under one
 abbrev pub key_of_format : AnyFormat → Option (List ℕ)

@@ -30,7 +30,7 @@ use Rattle.bb_plan.proofs.Plans.{plan_refusal}
 use Rattle.bb_session.specs.Acting.{Acts, AreRoundsOf, BootsFrom, Plays, Stops, WorkAnswers, play_of, refusal_by_table, rounds_for, start_plans_of}
 use Rattle.bb_session.specs.Booting.{end_refusal}
 use Rattle.bb_session.specs.Scripting.{refusal_by_end}
-use Rattle.bb_session.specs.Session.{Answers, LoadAnswer, acts_after, barred_after, ended_by, ended_status, load_for, session_by_acts, text_after, work_session, worked_on}
+use Rattle.bb_session.specs.Session.{Answers, LoadAnswer, acts_after, barred_after, ended_by, ended_status, load_for, session_by_acts, shown, text_after, work_session, worked_on}
 use Rattle.bb_session.specs.Work.{IsWork}
 use Rattle.bb_session.proofs.Acted.{session_after}
 use Rattle.bb_session.proofs.Started.{work_rounds}
@@ -135,7 +135,7 @@ work_ends plan from to (Ok found) answers done image held =
     let status = ended_status (work_session plan (Ok found) answers) in
     subst (λ (f : Option (List ℕ)). EndsBy (refusal_by_table (acts_after plan f)) status)
     (work_gives plan from to found answers done image held)
-    (acted_end plan found (acts_after plan found) answers are)
+    (acted_end plan (shown plan.keyed.layout found) (acts_after plan found) answers are)
 
 -- ---- so an answer of the two comes where the table brings it, and only there
 

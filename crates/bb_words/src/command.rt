@@ -1,5 +1,4 @@
-use crate::ActionList;
-use bb_base::{Bytes, Text};
+use bb_base::{Bytes, List, Text};
 
 /// A command of the program.
 #[derive(Debug, Drop)]
@@ -118,3 +117,6 @@ pub enum Action {
     /// `--dump-shell`: the same for a shell.
     DumpShell,
 }
+
+/// Actions, in the order of the words.
+pub type ActionList = List<Action>;

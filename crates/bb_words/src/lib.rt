@@ -2,7 +2,6 @@
 //! fits none. The program's top crate stands on it; it knows neither devices nor files.
 #![tactic(auto)]
 
-mod action_list;
 mod command;
 mod drill;
 mod error;
@@ -16,10 +15,9 @@ mod read;
 mod row;
 mod word;
 
-pub use action_list::ActionList;
 pub use command::{
-    Action, BootCommand, CauseWord, Command, Described, DrillNumbers, MarkGoodCommand, MenuCommand,
-    RawAction, RawCommand, ShellCommand, StateCommand,
+    Action, ActionList, BootCommand, CauseWord, Command, Described, DrillNumbers, MarkGoodCommand,
+    MenuCommand, RawAction, RawCommand, ShellCommand, StateCommand,
 };
 pub use error::WordsError;
 pub use law::{law_accepted_words, law_first_bad_word};

@@ -1,4 +1,4 @@
-use Rattle.std.proofs.Common.{◌≡◌, ℕ, List, false, Option, Ok, refl, subst, sym}
+use Rattle.std.proofs.Common.{◌≡◌, ℕ, false, Option, Ok, refl, subst, sym}
 use Rattle.bb_state.specs.Keyed.{Keyed}
 use Rattle.bb_copies.specs.Loading.{IsLoad}
 use Rattle.bb_copies.specs.Store.{used_after}
@@ -7,7 +7,7 @@ use Rattle.bb_session.specs.Acting.{needs_table}
 use Rattle.bb_session.specs.Doing.{IsDone}
 use Rattle.bb_session.specs.Work.{IsLoadedArea, IsWorkedOut}
 use Rattle.bb_state.specs.Kinds.{laid_form, laid_kinds}
-use Rattle.bb_state.specs.State.{keyed_of}
+use Rattle.bb_state.specs.State.{keyed_of, stored_of}
 use Rattle.bb_session.proofs.Acted.{looks_only}
 use Rattle.bb_session.proofs.Done.{done_later, done_out, done_unloaded}
 use Rattle.bb_session.proofs.Worked.{refused_by}
@@ -34,7 +34,7 @@ returns-in_err-load-clause-gives g c =
       later = done.runs.later;
       starts = done.runs.starts;
       gives = tt;
-      fails = record { area = c.load.new.self.backing.kept; fails = done.fails };
+      fails = done.fails;
     })
     (refused_by c.from_residual.result _ c.from_residual.ensures.1)
 
@@ -44,20 +44,19 @@ returns-clause-gives g c =
     let mid = g.B.Flash.device c.load.new.flash in
     let to = g.B.Flash.device c.work_at.new.board in
     let table = c.load.new.self.table in
+    let area = stored_of c.load.new.self in
     let done = c.in_ok-load.ensures in
-    let load : IsLoad (laid_form keyed) (laid_kinds keyed.layout) table (g.B.Flash.device c.args.board.now) mid (Ok c.in_ok-load.field-0) =
-    subst (λ (area : List ℕ). IsLoad (laid_form keyed) (laid_kinds keyed.layout) area (g.B.Flash.device c.args.board.now) mid (Ok c.in_ok-load.field-0))
-    done.kept done.load in
-    let gave : IsLoadedArea keyed table c.in_ok-load.field-0 (g.B.Flash.device c.args.board.now) mid =
-    record { gives = load.gives; defaults = done.defaults; exact = load.exact; erases = load.erases } in
-    done_out keyed c.args.work (g.B.Flash.device c.args.board.now) mid to table c.in_ok-load.field-0 c.work_at.result
-    c.requires.on.geometry (let e = c.needs_table.ensures in cc) c.args.state.facts.copied.least gave
+    let load : IsLoad (laid_form keyed) (laid_kinds keyed.layout) area (g.B.Flash.device c.args.board.now) mid (Ok c.in_ok-load.field-0) = done.load in
+    let gave : IsLoadedArea keyed area c.in_ok-load.field-0 (g.B.Flash.device c.args.board.now) mid =
+    record { gives = load.gives; says = load.says; exact = load.exact; erases = load.erases } in
+    done_out keyed c.args.work (g.B.Flash.device c.args.board.now) mid to area table c.in_ok-load.field-0 c.work_at.result
+    c.requires.on.geometry (let e = c.needs_table.ensures in cc) c.args.state.facts.copied.least gave done.table
     (record {
       images = load.runs.images;
       outside = load.runs.outside;
       later = load.runs.later;
       starts = load.runs.starts;
-      gives = record { area = table; loaded = c.in_ok-load.field-0; gave = gave; taken = refl; used_is = refl };
+      gives = record { area = area; loaded = c.in_ok-load.field-0; gave = gave; taken = refl; used_is = refl };
       fails = tt;
     })
     (subst (λ (k : Keyed). IsDone k (used_after c.in_ok-load.field-0) table c.args.work mid to c.work_at.result) done.keyed
