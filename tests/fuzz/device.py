@@ -50,8 +50,8 @@ def candidate(layout, region):
     return region[end - length:end - 8]
 
 
-def passes(layout, record, key):
-    """The area that a record's bytes pass as, None for none."""
+def passes(layout, record, keys):
+    """The area that a record's bytes pass as under one of these keys, None for none."""
     if layout.type == b'dtb':
         return passes_as_blob(layout, record)
     if len(record) < 16 + layout.area:
@@ -61,7 +61,7 @@ def passes(layout, record, key):
     if magic != layout.magic or length != layout.area or header_crc != zlib.crc32(record[:12]):
         return None
     end = 16 + layout.area
-    is_coded = not layout.keyed or record[end:end + 32] == code(key, record[:end])
+    is_coded = not layout.keyed or record[end:end + 32] in [code(key, record[:end]) for key in keys]
     return area if data_crc == zlib.crc32(area) and is_coded else None
 
 
@@ -84,13 +84,13 @@ def passes_as_blob(layout, record):
     return bytes(area) if layout.record(bytes(area), None) == record else None
 
 
-def passing(layout, device, key):
+def passing(layout, device, *keys):
     """What each copy passes."""
     found = []
     for copy in range(layout.copies):
         start, end = layout.region(copy)
         record = candidate(layout, device[start:end])
-        found.append(None if record is None else passes(layout, record, key))
+        found.append(None if record is None else passes(layout, record, keys))
     return found
 
 

@@ -43,6 +43,7 @@ DONE = {
     'raw': rb'(none|([0-9a-f]{2})*)\n|',
     'state': rb'.*\n|',
     'menu': rb'.*\n|',
+    'rekey': rb'rekey live [0-3] old [0-3]\n',
     'mark-good': rb'good [A-Za-z0-9_-]+ [0-9]+\n',
     'boot': rb'start [A-Za-z0-9_-]+ left [0-9]+ tries [0-9]+\n',
     'shell': rb'.*',
@@ -107,7 +108,7 @@ class Wanted:
 
     def want_raw(self, command):
         self.layout = Strides(command, self.foreseen.call.geometry)
-        found = [area for area in passing(self.layout, self.base, None) if area is not None]
+        found = [area for area in passing(self.layout, self.base) if area is not None]
         text = (found[0].hex() if found else 'none') + '\n'
         if command.area is not None:
             text, self.area, self.writes, self.saves = '', command.area, True, command.area not in found
@@ -115,11 +116,13 @@ class Wanted:
 
     def want_state(self, command):
         foreseen = self.foreseen
-        found = passing(self.layout, self.base, foreseen.key)
+        found = passing(self.layout, self.base, foreseen.key, *foreseen.old_keys)
         loaded = next((area for area in found if area is not None), None)
         first = self.layout.defaults() if loaded is None else loaded
         table, begun = Table(self.layout, first), None
-        if command.name == 'state':
+        if command.name == 'rekey':
+            status, text = 0, f'rekey live {0 if loaded is None else self.layout.copies} old 0\n'
+        elif command.name == 'state':
             status, text = 0, table.act(command.actions)
         elif command.name == 'shell':
             targets = Targets(foreseen.settings, table)
@@ -137,7 +140,7 @@ class Wanted:
         self.saves = last != first and last not in found
         if last != first or loaded is not None:
             self.area = last
-            self.writes = last != first or any(area != last for area in found)
+            self.writes = last != first or any(area != last for area in passing(self.layout, self.base, foreseen.key))
         if begun is not None:
             self.area, self.writes, self.saves = last, True, begun not in found
 

@@ -5,7 +5,10 @@ import re
 from values import geometry_of, is_number, is_utf8, number
 
 LONG = {'--input': '-i', '--name': '-n', '--get': '-g', '--set': '-s'}
-ONCE = {'state': 'ink', 'mark-good': 'inkc', 'boot': 'inkc', 'shell': 'inkcx'}
+# The options that come at most once, by their letters, `o` being --old-key, and those that must.
+ONCE = {'state': 'inko', 'mark-good': 'inkoc', 'boot': 'inkoc', 'shell': 'inkocx', 'rekey': 'inko'}
+MUST = {'state': 'i', 'mark-good': 'ic', 'boot': 'ic', 'shell': 'icx', 'rekey': 'iko'}
+LETTERS = {'-i': 'i', '-n': 'n', '-k': 'k', '--old-key': 'o', '-c': 'c', '-x': 'x'}
 SESSIONS = range(1, 1001)
 TARGET = re.compile(r'[A-Za-z0-9_-]+')
 GENERAL = ('targets', 'state_prefix', 'default_attempts', 'default_priority', 'reset_attempts',
@@ -118,14 +121,14 @@ class Command:
                 due = option
             elif option in ('-g', '-s') and self.name == 'state':
                 due = option
-            elif option in ('-i', '-n', '-k', '-c', '-x') and option[1] in set(once) - set(self.given):
+            elif LETTERS.get(option) in set(once) - set(self.given):
                 due = option
             else:
                 raise Bad(place)
             if sign:
                 self.take(due, value, place)
                 due = None
-        if due or not {'i', 'c', 'x'} & set(once) <= set(self.given):
+        if due or not set(MUST[self.name]) <= set(self.given):
             raise Bad(len(self.words) + 1)
 
     def take(self, option, value, place):
@@ -141,7 +144,7 @@ class Command:
         elif option == '-g':
             self.actions.append(('get', value, None))
         else:
-            self.given[option[1]] = value
+            self.given[LETTERS[option]] = value
 
 
 class BadSettings(Exception):

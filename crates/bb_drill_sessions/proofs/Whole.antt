@@ -119,7 +119,7 @@ module _ (plan : SessionPlan) (before after : Memory) (geometry : before.geometr
   same : work_session plan (Ok Held) answers ≡ work_session plan (Ok Held) Sound
   same =
       subst (λ f. work_session plan (Ok f) answers ≡ work_session plan (Ok f) (answers_after plan (Ok f))) held_is
-      (work_same plan (device_of before) (device_of after) found answers work whole memory (inr calm.starts))
+      (work_same plan (device_of before) (device_of after) found answers work X refl calm.calls whole memory (inr calm.starts))
 
   left : LeavesRegions (laid_kinds plan.keyed.layout) board_geometry.page (worked_region plan Held answers) X Y
   left =

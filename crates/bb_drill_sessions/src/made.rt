@@ -59,8 +59,8 @@ fn bytes_of(alloc: Global, slice: &[u8]) -> Result<Bytes, NoMemory>
     Ok(bytes)
 }
 
-// Makes of a table what the work of a plan does. The drill has no work that saves an area or runs a
-// script, and none whose best target has no plan.
+// Makes of a table what the work of a plan does. The drill has no work that saves an area, changes
+// a key or runs a script, and none whose best target has no plan.
 fn follow(plan: &PlannedWork, table: &mut Table) -> Result<(), NoMemory>
     requires served { IsServed (keyed_as plan.now.keyed) plan.now.work }
     requires sized { length table.old ≡ plan.now.keyed.layout.area_len }
@@ -69,6 +69,7 @@ fn follow(plan: &PlannedWork, table: &mut Table) -> Result<(), NoMemory>
     match &plan.work {
         Work::Show => {}
         Work::Write(_) => return Err(NoMemory),
+        Work::Rekey => return Err(NoMemory),
         Work::Run(_, _, _, _) => return Err(NoMemory),
         Work::Act(actions) => put_values(table, actions),
         Work::Good(chooser) => mark(chooser, table),

@@ -49,7 +49,7 @@ use Rattle.bb_words.specs.declared.command.Described.{Described}
 use Rattle.bb_words.specs.declared.command.RawAction.{RawAction}
 use Rattle.bb_words.specs.declared.command.RawAction.TheVariants as raw_actions
 use Rattle.bb_plan.specs.Status.{is_planning}
-use Rattle.bb_plan.specs.PlanSteps.{actions_by, binding_by, binding_reading, blob_root, block_by, block_reading, bound_on, cause_of, entries_reading, is_blob, key_after, key_reading, keyed_reading, laid_by, layout_by, layout_reading, named_block, plans_reading, refused_as, script_by, script_reading, source_root, targets_by, tree_in, with_key}
+use Rattle.bb_plan.specs.PlanSteps.{actions_by, binding_by, binding_reading, blob_root, block_by, block_reading, bound_on, cause_of, entries_reading, is_blob, key_reading, keyed_reading, keys_after, laid_by, layout_by, layout_reading, named_block, old_after, old_block, old_reading, plans_reading, refused_as, script_by, script_reading, source_root, targets_by, tree_in, with_keys}
 use Rattle.bb_plan.specs.Plan.{Act, Boot, FileAnswers, Good, OnCopies, Prints, Run, SessionPlan, Task, Work, boot_reading, command_reading, described_reading, first_area, on_copies, on_keyed, plan_by_words, plan_reading, planned, raw_on, raw_work, run_of, run_reading, words_reading, work_reading}
 use Rattle.bb_plan.specs.FilesRead.{EachEnd, Reading, Yields, and_then, result_by, reading_of}
 use Rattle.bb_plan.specs.Refusal.{status_of}
@@ -290,18 +290,34 @@ key_ends file format = by (takes_key format)
     by true = named_ends file
     by false = tt
 
+old_ends : (file : Option (List ℕ)) (format : FormatKind) → Ends Any (old_reading file format)
+old_ends file format = by (takes_key format)
+  where
+    named : (file : Option (List ℕ)) → Ends Any (old_block file)
+    named None = tt
+    named (Some file) =
+        then_ends Any Any (λ (block : List ℕ). Yields (Some block)) (block_reading file)
+        (block_ends file) (λ block any. tt)
+
+    by : (takes : Bool) → Ends Any (cond takes (old_block file) (Yields None))
+    by true = named file
+    by false = tt
+
 abbrev HasSize : Keyed → Type 0
 HasSize keyed = IsSized keyed.layout
 
 keyed_ends : (described : Described) (geometry : Geometry) →
     Ends HasSize (keyed_reading described geometry)
 keyed_ends described geometry =
-    then_ends IsSized HasSize (key_after described.key)
+    then_ends IsSized HasSize (keys_after described.key described.old_key)
     (layout_reading described.file described.name geometry)
     (layout_ends described.file described.name geometry)
     (λ layout sized.
-    then_ends Any HasSize (with_key layout) (key_reading described.key layout.format)
-    (key_ends described.key layout.format) (λ block any. sized))
+    then_ends Any HasSize (old_after described.old_key layout)
+    (key_reading described.key layout.format) (key_ends described.key layout.format)
+    (λ key any.
+    then_ends Any HasSize (with_keys layout key) (old_reading described.old_key layout.format)
+    (old_ends described.old_key layout.format) (λ old any. sized)))
 
 binding_ends : (file : List ℕ) (layout : Laid) → IsSized layout →
     Ends (IsBoundSo layout) (binding_reading file layout)
@@ -356,6 +372,7 @@ work_ends (requests.Run settings file cause) layout sized =
     (λ (plans : List (Option StartPlan)). Yields (Run script targets (cause_of cause) plans))
     (plans_reading targets) (entries_end 0 (entries_of targets))
     (λ plans any. record { layout_is = sized; bound = bound.0; binding = bound.1 })))
+work_ends requests.Rekey layout sized = tt
 
 described_ends : (described : Described) (geometry : Geometry) (request : Request) →
     Ends IsSizedTask (described_reading described geometry request)
@@ -393,6 +410,8 @@ command_ends (commands.Boot command) geometry =
 command_ends (commands.Shell command) geometry =
     described_ends command.boot.described geometry
     (requests.Run command.boot.settings command.script command.boot.cause)
+command_ends (commands.Rekey command) geometry =
+    described_ends command.described geometry requests.Rekey
 command_ends (commands.Menu command) geometry = λ found. menu_ends command.dir found
 command_ends (commands.Drill numbers) geometry = tt
 

@@ -12,7 +12,7 @@ use Rattle.bb_layout.specs.Results.{result_and_then}
 use Rattle.bb_layout.specs.Thirds.{raw_layout}
 use Rattle.bb_layout.specs.declared.format_kind.FormatKind.TheVariants as formats
 use Rattle.bb_script.specs.Tree.{ScriptTree}
-use Rattle.bb_state.specs.Keyed.{FitsKey, Keyed}
+use Rattle.bb_state.specs.Keyed.{FitsKey, FitsOld, Keyed}
 use Rattle.bb_words.specs.Words.{words_of}
 use Rattle.bb_words.specs.declared.command.CauseWord.{CauseWord}
 use Rattle.bb_words.specs.declared.command.Command.{Command}
@@ -35,9 +35,10 @@ use Rattle.bb_plan.specs.declared.request.Request.TheVariants as requests
 use Rattle.bb_plan.specs.declared.status.Status.{Status}
 use Rattle.bb_plan.specs.Refusal.{status_of}
 pub use Rattle.bb_plan.specs.declared.plan.Work.{Work}
-pub use Rattle.bb_plan.specs.declared.plan.Work.TheVariants.{Act, Boot, Good, Run, Show, Write}
+pub use Rattle.bb_plan.specs.declared.plan.Work.TheVariants.{Act, Boot, Good, Rekey, Run, Show}
+pub use Rattle.bb_plan.specs.declared.plan.Work.TheVariants.{Write}
 
--- the layout with the block of its key, if its records stand under one, and the work
+-- the layout with the blocks of its keys, if its records stand under one, and the work
 pub record SessionPlan : Type 0 where
   pub keyed : Keyed
   pub work : Work
@@ -65,7 +66,7 @@ raw_work (raw_actions.Write area) = Write area
 abbrev pub raw_on : RawCommand → Laid → Result Task Refusal
 raw_on command layout =
     Ok (OnCopies (record {
-      keyed = record { layout = layout; key = None };
+      keyed = record { layout = layout; key = None; old = None };
       work = raw_work command.action;
     }))
 
@@ -102,8 +103,9 @@ work_reading (requests.Boot settings cause) layout =
     and_then (boot_reading cause) (binding_reading settings layout)
 work_reading (requests.Run settings file cause) layout =
     and_then (run_reading file cause) (binding_reading settings layout)
+work_reading requests.Rekey layout = Yields Rekey
 
--- the layout and its key, and then the work on its copies
+-- the layout and its keys, and then the work on its copies
 abbrev pub on_copies : Keyed → Work → Reading Task
 on_copies keyed work = Yields (OnCopies (record { keyed = keyed; work = work }))
 
@@ -127,6 +129,8 @@ command_reading (commands.Boot command) geometry =
 command_reading (commands.Shell command) geometry =
     described_reading command.boot.described geometry
     (requests.Run command.boot.settings command.script command.boot.cause)
+command_reading (commands.Rekey command) geometry =
+    described_reading command.described geometry requests.Rekey
 command_reading (commands.Menu command) geometry =
     and_then (λ text. Yields (Prints text)) (menu_reading command.dir)
 command_reading (commands.Drill numbers) geometry = Yields (Drills numbers)
@@ -185,9 +189,9 @@ first_area layout = convert layout []
 
 -- ---- a plan as the code has it
 
--- a layout with its key
+-- a layout with its keys
 abbrev pub keyed_as : KeyedLayout → Keyed
-keyed_as keyed = record { layout = fields_of keyed.layout; key = keyed.key }
+keyed_as keyed = record { layout = fields_of keyed.layout; key = keyed.key; old = keyed.old }
 
 abbrev pub plan_as : PlannedWork → SessionPlan
 plan_as plan = record { keyed = keyed_as plan.keyed; work = plan.work }
@@ -216,10 +220,13 @@ IsServed keyed (Act actions) = AreBoundTo keyed.layout.vars actions
 IsServed keyed (Good targets) = IsBoundAt keyed.layout targets
 IsServed keyed (Boot targets cause plans) = IsBoundAt keyed.layout targets
 IsServed keyed (Run script targets cause plans) = IsBoundAt keyed.layout targets
+IsServed keyed Rekey = ⊤
 
--- a layout for a device of this geometry, with a key exactly where its records stand under one
+-- a layout for a device of this geometry, with a key exactly where its records stand under one, and
+-- an old one only there
 pub record IsLaidFor (geometry : Geometry) (keyed : Keyed) : Type 0 where
   pub fits : FitsKey keyed.layout.format keyed.key
+  pub old_fits : FitsOld keyed.layout.format keyed.old
   pub same_geometry : keyed.layout.geometry ≡ geometry
 
 -- and a plan for such a device

@@ -10,7 +10,7 @@ ghost use Rattle.bb_plan.specs.FilesRead.{IsExpected, IsReadAs};
 ghost use Rattle.bb_plan.specs.Refusal.{IsSendableRefusal};
 
 use crate::file::read_file;
-use crate::key::read_key;
+use crate::key::{read_key, read_old_key};
 use crate::refusal::Refusal;
 use bb_base::{Files, Text};
 use bb_dts::read_source;
@@ -22,15 +22,17 @@ use bb_tree::Tree;
 use bb_words::Described;
 use std::alloc::Global;
 
-/// A layout, and the key of its records, if they stand under one. It is never printed or copied.
+/// A layout, and the key of its records, if they stand under one, with the old key, if that is
+/// being changed. Neither is ever printed or copied.
 #[derive(Drop)]
 pub struct KeyedLayout {
     pub layout: Layout,
     pub key: Option<Key>,
+    pub old: Option<Key>,
 }
 
-/// The layout of the state that words name, with the key of its records, where they stand under
-/// one.
+/// The layout of the state that words name, with the keys of its records, where they stand under
+/// one: first the file of the key is read, and then that of the old one.
 pub(crate) fn read_keyed<N: Files>(
     alloc: Global,
     files: &mut N,
@@ -47,7 +49,9 @@ pub(crate) fn read_keyed<N: Files>(
     let layout = read_layout(alloc, files, &described.file, name, geometry)?;
     let key_file = described.key.as_ref();
     let key = read_key(alloc, files, key_file, layout.format)?;
-    Ok(KeyedLayout { layout, key })
+    let old_file = described.old_key.as_ref();
+    let old = read_old_key(alloc, files, old_file, layout.format)?;
+    Ok(KeyedLayout { layout, key, old })
 }
 
 // The layout of the state of that name, or of the first without one, that the devicetree in a file

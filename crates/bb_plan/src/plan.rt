@@ -25,6 +25,9 @@ pub enum Work {
     /// To load them, and to run this script, which boots by these targets, this cause and these
     /// plans.
     Run(SpeltScript, Chooser, Cause, PlanList),
+    /// To load them, which writes those under the old key anew, and to send how many copies pass
+    /// and how many of them under the old key alone.
+    Rekey,
 }
 
 /// What a session is to do.

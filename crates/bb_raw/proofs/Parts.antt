@@ -1,6 +1,5 @@
 -- The checks of a record, part by part.
-use Rattle.std.proofs.Common.{◌≡◌, ℕ, ◌+◌, ◌-◌, ◌<◌, ◌≤◌, ◌%◌, ◌==◌, ◌⊎◌, Bool, true, false, ◌&&◌, List, ◌++◌, length, take, drop, min, Option, Some, None, IfSome, refl, sym, ap, ◌∙◌, arith, cond, nat_le, length-append, append_assoc, inl, inr, subst}
-use Rattle.std.specs.Option.{option_map}
+use Rattle.std.proofs.Common.{◌≡◌, ℕ, ◌+◌, ◌-◌, ◌<◌, ◌≤◌, ◌%◌, ◌==◌, ◌⊎◌, Bool, false, ◌&&◌, List, ◌++◌, length, take, drop, min, Option, Some, None, refl, sym, ap, ◌∙◌, arith, cond, nat_le, length-append, append_assoc, inl, inr}
 use Rattle.std.proofs.lemmas.Bool.{cases_lt, eq-eqb, le-leb}
 use Rattle.std.proofs.lemmas.Bool.Decides.{nat_tests}
 use Rattle.std.proofs.lemmas.List.{drop-append-le, drop-take, drop_at, length-drop, length-take-le, take-append-drop, take-append-le, take-take, take_all, take_at}
@@ -9,11 +8,9 @@ use Rattle.byteorder.specs.Endian.{little_number}
 use Rattle.byteorder.specs.Numbers.{little_from-take}
 use Rattle.std.specs.Str.{bytes_eq}
 use Rattle.bb_base.specs.Crc.{crc_of}
-use Rattle.bb_base.specs.Checked.{IsPassed}
-use Rattle.bb_base.specs.Form.{Form}
-use Rattle.bb_raw.specs.Feeding.{KeepsFed, passed_answer, code_after, fed_passes, has_come, parts_agree, raw_holds}
+use Rattle.bb_raw.specs.Feeding.{KeepsFed, code_after, fed_passes, has_come, kept_bytes, parts_agree}
 use Rattle.bb_raw.specs.Laws.{agrees_within, and_same, area_within, fails_first, field_within, header_within, len_small, too_few}
-use Rattle.bb_raw.specs.Raw.{RawKind, area_agrees, area_of, code_len, data_len, hmac_text, has_field, header_agrees, passes_as_long, raw_agrees, raw_form, raw_length, raw_passes}
+use Rattle.bb_raw.specs.Raw.{RawKind, area_agrees, area_of, code_len, data_len, hmac_text, has_field, header_agrees, passes_as_long, passes_under, raw_agrees, raw_length}
 use Rattle.bb_raw.specs.declared.feed.RawFeed.{RawFeed}
 
 -- the parts of a record of an area of this length
@@ -123,12 +120,12 @@ same_tests m count all fed e h = elim (cases_lt fed m) [
   | inr enough ↦ grind (arith, nat_tests)
 ]
 
-any_parted :
+pub any_parted :
     (kind : RawKind) (feed : RawFeed) (area fed : List ℕ) →
     length feed.header ≡ 16 → length area ≡ 65535 →
     length (take (code_len kind.key) feed.code) ≡ code_len kind.key →
-    raw_holds kind feed fed area →
-    raw_passes kind fed
+    KeepsFed (kept_bytes kind feed area) feed.count fed →
+    passes_under kind fed
     ≡ cond (fed_passes kind feed area) (Some (take (data_len feed.header) area)) None
 any_parted kind feed area fed h a c fedded =
     let header : List ℕ = feed.header in
@@ -184,43 +181,9 @@ any_parted kind feed area fed h a c fedded =
           ap (λ k. passes_as_long kind k fed) same ∙ passes
     ]
 
--- the answer by one test, of an area that stands in front
-answered :
-    (test : Bool) (form : Form) (fed area : List ℕ) (n : ℕ) → n ≤ length area →
-    form.passes fed ≡ cond test (Some (take n area)) None → form.aged fed ≡ false →
-    IsPassed form fed area (passed_answer n test)
-answered true form fed area n h e f =
-    let long = length-take-le n area h in
-    record {
-      is =
-          ap (λ k. Some (record { len = k; old = false })) (sym long)
-          ∙ ap (λ b. Some (record { len = length (take n area); old = b })) (sym f)
-          ∙ sym (ap (option_map (λ l. record { len = length l; old = form.aged fed })) e);
-      area =
-          subst (λ (passes : Option (List ℕ)). IfSome passes (λ l. take (length l) area ≡ l)) (sym e)
-          (ap (λ k. take k area) long);
-    }
-answered false form fed area n h e f = record {
-  is = sym (ap (option_map (λ l. record { len = length l; old = form.aged fed })) e);
-  area =
-      subst (λ (passes : Option (List ℕ)). IfSome passes (λ l. take (length l) area ≡ l)) (sym e) tt;
-}
-
 pub code_few : (key : Option (List ℕ)) → code_len key ≤ 32
 code_few None = omega arith
 code_few (Some key) = omega arith
-
-pub raw_ends :
-    (kind : RawKind) (feed : RawFeed) (area fed : List ℕ) →
-    length feed.header ≡ 16 → length area ≡ 65535 → length feed.code ≡ 32 →
-    raw_holds kind feed fed area →
-    IsPassed (raw_form kind) fed area (passed_answer (data_len feed.header) (fed_passes kind feed area))
-raw_ends kind feed area fed h a c held =
-    let small = len_small feed.header in
-    let few = code_few kind.key in
-    answered (fed_passes kind feed area) (raw_form kind) fed area (data_len feed.header) (omega arith)
-    (any_parted kind feed area fed h a
-    (length-take-le (code_len kind.key) feed.code (omega arith)) held) refl
 
 -- ---- the code, which stands after the area's bytes
 

@@ -1,4 +1,4 @@
--- The raw record is a format.
+-- The raw record under one key, or under none: what its text passes as, and what passes.
 use Rattle.std.proofs.Common.{◌≡◌, ℕ, ◌+◌, ◌-◌, ◌%◌, ◌^◌, ◌==◌, ◌<◌, ◌≤◌, Bool, true, false, ◌&&◌, List, ◌++◌, length, take, drop, Option, Some, None, refl, sym, ap, ◌∙◌, append_assoc, arith, cond, nat_le, length-append, take_all, length-drop, inl, inr}
 use Rattle.std.proofs.Math.Nat.{div-one, mod-eq_of_lt}
 use Rattle.std.proofs.lemmas.Nat.{mod_below}
@@ -11,9 +11,8 @@ use Rattle.std.specs.Str.{bytes_eq}
 use Rattle.byteorder.specs.Endian.{little_bytes, little_number}
 use Rattle.byteorder.specs.Numbers.{little_from-bytes, little_from-take, little_number-reads_back}
 use Rattle.bb_base.specs.Crc.{crc_of}
-use Rattle.bb_base.specs.Form.{IsForm}
 use Rattle.bb_hmac.proofs.Lengths.{length_hmac_of}
-use Rattle.bb_raw.specs.Raw.{RawKind, area_agrees, area_of, code_len, data_len, hmac_text, coded_text, has_code, has_field, header_agrees, header_text, passes_as_long, raw_agrees, raw_form, raw_length, raw_passes, raw_text}
+use Rattle.bb_raw.specs.Raw.{RawKind, area_agrees, area_of, code_len, data_len, hmac_text, coded_text, has_code, has_field, header_agrees, header_text, passes_as_long, passes_under, raw_agrees, raw_length, raw_text}
 
 -- what was written as a number's low bytes is a field of that number
 field_written : (len number : ℕ) (rest : List ℕ) →
@@ -84,7 +83,7 @@ text_headed : (kind : RawKind) (area rest : List ℕ) →
 text_headed kind area rest =
     append_assoc (coded_text kind.magic area) (hmac_text kind.key (coded_text kind.magic area)) rest
 
-text_whole : (kind : RawKind) (area : List ℕ) →
+pub text_whole : (kind : RawKind) (area : List ℕ) →
     length (raw_text kind area) ≡ raw_length kind (length area)
 text_whole kind area =
     let text : List ℕ = coded_text kind.magic area in
@@ -251,29 +250,29 @@ text_len kind area rest h =
     ∙ ap (λ n. n % 65536) (little_number-reads_back 2 (length area) after_len (omega arith))
     ∙ mod-eq_of_lt (omega arith)
 
-text_passes : (kind : RawKind) (area rest : List ℕ) → length area ≤ 65535 →
-    raw_passes kind (raw_text kind area ++ rest) ≡ Some area
+pub text_passes : (kind : RawKind) (area rest : List ℕ) → length area ≤ 65535 →
+    passes_under kind (raw_text kind area ++ rest) ≡ Some area
 text_passes kind area rest h =
     ap (λ n. passes_as_long kind n (raw_text kind area ++ rest)) (text_len kind area rest h)
     ∙ text_as_long kind area rest
 
-passed_small : (kind : RawKind) (bytes area : List ℕ) → raw_passes kind bytes ≡ Some area →
+pub passed_small : (kind : RawKind) (bytes area : List ℕ) → passes_under kind bytes ≡ Some area →
     length area ≤ 65535
 passed_small kind bytes area e =
     let small = len_small bytes in
     let is = whole_as_long kind (data_len bytes) bytes area e in
     omega arith
 
-passed_whole : (kind : RawKind) (bytes area : List ℕ) → raw_passes kind bytes ≡ Some area →
+pub passed_whole : (kind : RawKind) (bytes area : List ℕ) → passes_under kind bytes ≡ Some area →
     raw_length kind (length area) ≤ length bytes
 passed_whole kind bytes area e =
     let is = whole_as_long kind (data_len bytes) bytes area e in
     let enough = enough_as_long kind (data_len bytes) bytes area e in
     omega arith
 
-first_count : (kind : RawKind) (m : ℕ) (bytes : List ℕ) → m ≡ raw_length kind 65535 →
-    raw_passes kind (take m bytes) ≡ raw_passes kind bytes
-first_count kind m bytes e =
+pub kind_first_count : (kind : RawKind) (m : ℕ) (bytes : List ℕ) → m ≡ raw_length kind 65535 →
+    passes_under kind (take m bytes) ≡ passes_under kind bytes
+kind_first_count kind m bytes e =
     let n : ℕ = data_len bytes in
     let small = len_small bytes in
     let split : m ≡ 6 + (m - 6) = omega arith in
@@ -285,16 +284,3 @@ first_count kind m bytes e =
     ∙ sym (first_as_long kind n (take m bytes))
     ∙ ap (passes_as_long kind n) (take-take (raw_length kind n) m bytes (omega arith))
     ∙ first_as_long kind n bytes
-
-pub raw_laws : (kind : RawKind) → IsForm (raw_form kind)
-raw_laws kind = record {
-  most = λ area fits. leb-true _ _ fits;
-  limit = λ area fits. leb-true _ _ fits;
-  whole = λ area fits. text_whole kind area;
-  text_passes = λ area rest fits. text_passes kind area rest (leb-true _ _ fits);
-  text_fresh = λ area rest fits. refl;
-  passed_fits = λ bytes area passed. le-leb _ _ (passed_small kind bytes area passed);
-  passed_whole = passed_whole kind;
-  first_count = λ bytes. first_count kind _ bytes refl;
-  first_aged = λ bytes. refl;
-}

@@ -4,3 +4,4 @@ pub mod Raw
 -- Inside: how a record comes in pieces, and that the raw record is a format.
 pub mod Feeding
 pub mod Laws
+pub mod KeyLaws

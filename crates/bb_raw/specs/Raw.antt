@@ -10,7 +10,11 @@
 --   12 to 15  header_crc   CRC-32 of bytes 0 to 11
 --   16 on     the area
 --   then      with a key   32 bytes, the HMAC-SHA256 of all bytes before it (RFC 2104)
-use Rattle.std.specs.Prelude.{ℕ, ◌+◌, ◌%◌, ◌^◌, ◌==◌, Bool, false, ◌&&◌, List, [], ◌++◌, length, take, drop, nat_le, Option, Some, None, if◌then◌else◌}
+--
+-- While a key is being changed there are two: a record passes under either, and is written under
+-- the first.
+use Rattle.std.specs.Prelude.{ℕ, ◌+◌, ◌%◌, ◌^◌, ◌==◌, Bool, false, not, ◌&&◌, List, [], ◌∷◌, ◌++◌}
+use Rattle.std.specs.Prelude.{length, take, drop, nat_le, Option, Some, None, is_some, if◌then◌else◌}
 use Rattle.std.specs.Str.{bytes_eq}
 use Rattle.byteorder.specs.Endian.{little_number, little_bytes}
 use Rattle.bb_base.specs.Crc.{crc_of}
@@ -22,6 +26,23 @@ use Rattle.bb_hmac.specs.Hmac.{hmac_of}
 pub record RawKind : Type 0 where
   pub magic : ℕ
   pub key : Option (List ℕ)
+
+-- the records of a magic under a key, or under none
+abbrev pub kind_under : ℕ → Option (List ℕ) → RawKind
+kind_under magic key = record { magic = magic; key = key }
+
+-- The raw records that pass: their magic, the block of the key that they are written under, if they
+-- have one, and that of an old key beside it, under which they pass too.
+pub record RawKeys : Type 0 where
+  pub magic : ℕ
+  pub key : Option (List ℕ)
+  pub old : Option (List ℕ)
+
+-- the keys under which they pass: none, one, or two of which the second is old
+abbrev pub keys_of : Option (List ℕ) → Option (List ℕ) → List (List ℕ)
+keys_of None old = []
+keys_of (Some key) None = key ∷ []
+keys_of (Some key) (Some old) = key ∷ old ∷ []
 
 -- At a place stand the `len` low bytes of a number. These are all of it: a magic and a CRC have 32
 -- bits, and an area's length 16.
@@ -100,19 +121,44 @@ abbrev pub passes_as_long : RawKind → ℕ → List ℕ → Option (List ℕ)
 passes_as_long kind area_len bytes =
     if raw_agrees kind area_len bytes then Some (area_of area_len bytes) else None
 
--- The area that bytes pass as, if they do: it is as long as the header says. What follows the
--- record doesn't count.
-abbrev pub raw_passes : RawKind → List ℕ → Option (List ℕ)
-raw_passes kind bytes = passes_as_long kind (data_len bytes) bytes
+-- The area that bytes pass as under one key, if they do: it is as long as the header says. What
+-- follows the record doesn't count.
+abbrev pub passes_under : RawKind → List ℕ → Option (List ℕ)
+passes_under kind bytes = passes_as_long kind (data_len bytes) bytes
 
--- the raw record as a format, in which nothing is old
-abbrev pub raw_form : RawKind → Form
-raw_form kind = record {
+-- ---- what passes under one of two keys
+
+-- the first of two areas that is given
+abbrev pub first_some : Option (List ℕ) → Option (List ℕ) → Option (List ℕ)
+first_some None other = other
+first_some (Some area) other = Some area
+
+-- The area that bytes pass as, if they do: without keys that of a record without a code, else that
+-- of one whose code is right under one of the keys.
+abbrev pub raw_passes : ℕ → List (List ℕ) → List ℕ → Option (List ℕ)
+raw_passes magic [] bytes = passes_under (kind_under magic None) bytes
+raw_passes magic (key ∷ []) bytes = passes_under (kind_under magic (Some key)) bytes
+raw_passes magic (key ∷ old ∷ more) bytes =
+    first_some
+    (passes_under (kind_under magic (Some key)) bytes)
+    (passes_under (kind_under magic (Some old)) bytes)
+
+-- They pass under the old key alone: they pass under both, and not under the first alone.
+abbrev pub raw_is_old : ℕ → List (List ℕ) → List ℕ → Bool
+raw_is_old magic [] bytes = false
+raw_is_old magic (key ∷ []) bytes = false
+raw_is_old magic (key ∷ old ∷ more) bytes =
+    is_some (raw_passes magic (key ∷ old ∷ more) bytes)
+    && not (is_some (raw_passes magic (key ∷ []) bytes))
+
+-- the raw record as a format
+abbrev pub raw_form : RawKeys → Form
+raw_form kinds = record {
   area_len = area_limit;
-  length_of = raw_length kind;
-  reach = raw_length kind area_limit;
+  length_of = raw_length (kind_under kinds.magic kinds.key);
+  reach = raw_length (kind_under kinds.magic kinds.key) area_limit;
   fits = λ area. nat_le (length area) area_limit;
-  text = raw_text kind;
-  passes = raw_passes kind;
-  aged = λ bytes. false;
+  text = raw_text (kind_under kinds.magic kinds.key);
+  passes = raw_passes kinds.magic (keys_of kinds.key kinds.old);
+  aged = raw_is_old kinds.magic (keys_of kinds.key kinds.old);
 }

@@ -2,10 +2,10 @@ ghost use Rattle.std.specs.Prelude.{◌≡◌, ◌+◌, ◌≤◌, ◌++◌, dro
 ghost use Rattle.std.specs.Str.{bytes_eq};
 ghost use Rattle.bb_base.specs.Crc.{crc_of};
 ghost use Rattle.bb_base.specs.Form.{area_limit};
-ghost use Rattle.bb_raw.specs.Feeding.{passed_answer, fed_passes, parts_agree};
+ghost use Rattle.bb_raw.specs.Feeding.{passed_answer, fed_passes, old_passes, parts_agree};
 ghost use Rattle.bb_raw.specs.Raw.{code_len, coded_text, data_len, has_field, header_agrees};
-ghost use Rattle.bb_raw.specs.Raw.{header_len, header_text, hmac_text, raw_form};
-ghost use Rattle.bb_raw.specs.Laws.{raw_laws};
+ghost use Rattle.bb_raw.specs.Raw.{header_len, header_text, hmac_text, kind_under, raw_form};
+ghost use Rattle.bb_raw.specs.KeyLaws.{raw_laws};
 
 use crate::feed::{RawFeed, take_in};
 use bb_base::{AREA_LIMIT, Format, Passed, crc32};
@@ -22,45 +22,78 @@ const CODE_LEN: usize = 32;
 /// The raw record of an area of at most `AREA_LIMIT` bytes, under one magic: a header, and the area
 /// (barebox User Manual, State Framework, the backend `raw`). Numbers in it are little endian. With
 /// a key the record ends in the HMAC-SHA256 of all bytes before it, which are 32 bytes more (RFC
-/// 2104), and nothing passes without it. The area that passes is as long as the header says.
+/// 2104), and nothing passes without it. Beside a key there may be an old one: records then pass
+/// under either, and are written under the key. The area that passes is as long as the header says.
 #[derive(Drop)]
 pub struct Raw {
     magic: u32,
     key: Option<Key>,
+    old: Option<Key>,
 }
 
 impl Model for Raw {
-    ghost use Rattle.bb_raw.specs.Raw.{RawKind};
+    ghost use Rattle.bb_raw.specs.Raw.{RawKeys};
 
-    ghost Value = { RawKind };
+    ghost Value = { RawKeys };
 
-    ghost view = { λ r. record { magic = r.magic; key = r.key } };
+    ghost view = { λ r. record { magic = r.magic; key = r.key; old = r.old } };
 }
 
 impl Raw {
-    /// The format of areas of any length up to `AREA_LIMIT` bytes, under a key where one is given.
-    pub fn of(magic: u32, key: Option<Key>) -> Raw
-        ensures { result ≡ record { magic = magic; key = key } }
+    /// The format of areas of any length up to `AREA_LIMIT` bytes, under a key where one is given,
+    /// and under an old one too where that is given beside the key.
+    pub fn of(magic: u32, key: Option<Key>, old: Option<Key>) -> Raw
+        ensures { result ≡ record { magic = magic; key = key; old = old } }
     {
-        Raw { magic, key }
+        Raw { magic, key, old }
     }
 }
 
-// What all that was fed passes as.
-fn passed_as(magic: u32, key: &Option<Key>, feed: &RawFeed, area: &[u8]) -> Option<Passed>
+// What all that was fed passes as, under the key or else under the old one.
+fn passed_as(
+    magic: u32,
+    key: &Option<Key>,
+    old: &Option<Key>,
+    feed: &RawFeed,
+    area: &[u8],
+) -> Option<Passed>
     requires { length area.now ≡ area_limit }
     ensures { result ≡ passed_answer (data_len feed.now.header)
-        (fed_passes (record { magic = magic; key = key.now }) feed.now area.now) }
+        (fed_passes (kind_under magic key.now) feed.now area.now)
+        (old_passes magic key.now old.now feed.now area.now) }
 {
     let len = data_len(&feed.header);
     if passes(magic, key, feed, area) {
-        Some(Passed { len, old: false })
-    } else {
-        None
+        return Some(Passed { len, old: false });
+    }
+    if passes_as_old(magic, key, old, feed, area) {
+        return Some(Passed { len, old: true });
+    }
+    None
+}
+
+// Whether the same as below holds under the old key, which counts beside a key alone.
+fn passes_as_old(
+    magic: u32,
+    key: &Option<Key>,
+    old: &Option<Key>,
+    feed: &RawFeed,
+    area: &[u8],
+) -> bool
+    requires { length area.now ≡ area_limit }
+    ensures { result ≡ old_passes magic key.now old.now feed.now area.now }
+{
+    match key {
+        None => false,
+        Some(_) => match old {
+            None => false,
+            Some(_) => passes(magic, old, feed, area),
+        },
     }
 }
 
-// Whether a whole record came, of an area as long as its header says, and its checks hold.
+// Whether a whole record came, of an area as long as its header says, and its checks hold under a
+// key, or without one.
 fn passes(magic: u32, key: &Option<Key>, feed: &RawFeed, area: &[u8]) -> bool
     requires { length area.now ≡ area_limit }
     ensures { result ≡ fed_passes (record { magic = magic; key = key.now }) feed.now area.now }
@@ -218,6 +251,6 @@ impl Format for Raw {
     }
 
     fn end(&self, feed: RawFeed, area: &[u8]) -> Option<Passed> {
-        passed_as(self.magic, &self.key, &feed, area)
+        passed_as(self.magic, &self.key, &self.old, &feed, area)
     }
 }

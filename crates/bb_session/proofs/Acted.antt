@@ -11,11 +11,12 @@ use Rattle.bb_shell.specs.Sequence.{RanRounds, StopsThere, refused_in, save_roun
 use Rattle.bb_shell.specs.Rounds.{answer_of, best_of, rounds_by}
 use Rattle.bb_shell.proofs.Answering.{rounds_are}
 use Rattle.bb_shell.proofs.Sequence.{none_stops, once_stops, ran_rounds, stops_there}
-use Rattle.bb_session.specs.Acting.{Acts, AreRoundsOf, BootsFrom, NoneBest, Plays, SavesOnce, Stops, WorkAnswers, boots_of, kept_before, needs_table, rounds_for, save_rounds, start_plans_of}
+use Rattle.bb_session.specs.Acting.{Acts, AreRoundsOf, BootsFrom, NoneBest, Plays, SavesOnce, SendsCounts, Stops, WorkAnswers, boots_of, counts_copies, kept_before, needs_table, rounds_for, save_rounds, start_plans_of}
 use Rattle.bb_session.specs.Looking.{look_text}
+use Rattle.bb_session.specs.Rekeying.{CopyCounts}
 use Rattle.bb_plan.specs.Plan.{SessionPlan}
 use Rattle.bb_plan.specs.declared.plan.Work.{Work}
-use Rattle.bb_plan.specs.declared.plan.Work.TheVariants.{Show}
+use Rattle.bb_plan.specs.declared.plan.Work.TheVariants.{Rekey, Show}
 use Rattle.bb_plan.specs.declared.refusal.Refusal.{Refusal}
 use Rattle.bb_session.specs.Session.{LoadAnswer, acts_after, ended_by, loaded_area, refusal_at_end, rounds_after, session_by_acts, shown, text_after, work_session, work_text}
 use Rattle.bb_session.specs.Doing.{session_on}
@@ -23,6 +24,11 @@ use Rattle.bb_session.specs.Work.{IsLookWork, IsPlayOf, IsTableWork, IsWork}
 use Rattle.bb_session.proofs.Plays.{plays_to}
 
 -- ---- a look, or rounds after a load
+
+-- nothing else asks for the counts of its load alone
+pub counts_only : (work : Work) → counts_copies work ≡ true → work ≡ Rekey
+counts_only Rekey counts = refl
+counts_only _ counts = absurd cc
 
 pub looks_only : (work : Work) → needs_table work ≡ false → work ≡ Show
 looks_only Show none = refl
@@ -47,6 +53,14 @@ as_work plan from to load answers needs work =
     subst (λ n. MatchBool n (IsTableWork plan from to load answers) (IsLookWork plan from to load answers)) (sym needs) work
 
 -- ---- the rounds are those that their answers make
+
+-- whatever the load counted
+pub counts_apart : (plans : List (Option StartPlan)) (acts : Acts) (answers : WorkAnswers) (counts : CopyCounts) →
+    rounds_for plans acts (record answers { counts = counts }) ≡ rounds_for plans acts answers
+counts_apart plans (SavesOnce table) answers counts = refl
+counts_apart plans (BootsFrom targets table) answers counts = refl
+counts_apart plans (Plays script known) answers counts = refl
+counts_apart plans _ answers counts = refl
 
 once_back : (table : List ℕ) (refusal : Option CopyFault) →
     save_rounds table (answer_of (save_round 0 table refusal) ∷ []) ≡ save_round 0 table refusal ∷ []
@@ -79,6 +93,7 @@ acted_rounds : (plan : SessionPlan) (found : Option (List ℕ)) (acts : Acts) (a
     (session_by_acts plan found acts answers).rounds ≡ rounds_for (start_plans_of plan.work) acts answers
 acted_rounds plan found (Stops bar) answers = refl
 acted_rounds plan found (Plays script known) answers = refl
+acted_rounds plan found SendsCounts answers = refl
 acted_rounds plan found acts answers =
     let rounds = rounds_for (start_plans_of plan.work) acts answers in
     ended_rounds (refused_in rounds) (text_after plan found rounds) (refusal_at_end acts rounds) rounds
@@ -128,6 +143,7 @@ table_session plan found answers needs = by (acts_after plan found)
         session_by_acts plan (shown plan.keyed.layout found) acts answers ≡ session_by_acts plan (Some (loaded_area plan.keyed.layout found)) acts answers
     by (Stops bar) = refl
     by (Plays script known) = refl
+    by SendsCounts = refl
     by acts =
         let rounds = rounds_for (start_plans_of plan.work) acts answers in
         ap (λ text. ended_by (refused_in rounds) text (refusal_at_end acts rounds) rounds) (texts rounds)

@@ -22,7 +22,7 @@ use Rattle.bb_plan.specs.declared.refusal.Refusal.{Refusal}
 use Rattle.bb_plan.specs.declared.refusal.Refusal.TheVariants.{NoMemory, NoTarget, ScriptFailed, StartFailed, StepLimit}
 use Rattle.bb_plan.specs.declared.status.Status.{Status}
 use Rattle.bb_plan.specs.declared.status.Status.TheVariants as statuses
-use Rattle.bb_session.specs.Acting.{Acts, BootsFrom, LostPlace, NoneBest, Plays, Stops, TableBar, WorkAnswers, bar_refusal, play_of, rounds_for, start_plans_of}
+use Rattle.bb_session.specs.Acting.{Acts, BootsFrom, LostPlace, NoneBest, Plays, SendsCounts, Stops, TableBar, WorkAnswers, bar_refusal, play_of, rounds_for, start_plans_of}
 use Rattle.bb_session.specs.Booting.{end_refusal}
 use Rattle.bb_session.specs.Scripting.{refusal_by_end}
 use Rattle.bb_session.specs.Session.{LoadAnswer, acts_after, ended_by, ended_status, rounds_after, session_by_acts, shown, text_after, work_session, worked_on}
@@ -97,6 +97,7 @@ session_has P bar failed scripts plan found answers refused refusal h = by (acts
     by (Plays script known) refused h =
         let play = play_of script known answers in
         script_has P scripts (course_end play) (refused_in (course_at play).outside.rounds) refused refusal h
+    by SendsCounts refused h = absurd (none-some refusal h)
     by acts refused h =
         worked_has P bar plan (shown plan.keyed.layout found) (rounds_for (start_plans_of plan.work) acts answers) refused acts
         (λ targets table round name is last fails. failed name) refusal h

@@ -17,7 +17,7 @@ use Rattle.bb_script_commands.specs.Playing.{ComeFirst, course_at, course_end}
 use Rattle.bb_script_commands.proofs.Fronts.{front_law}
 use Rattle.bb_shell.specs.Boot.{Round}
 use Rattle.bb_shell.specs.Sequence.{refused_in}
-use Rattle.bb_session.specs.Acting.{Acts, LostPlace, NoneBest, Plays, TableBar, WorkAnswers, bar_refusal, play_of, rounds_for, start_plans_of}
+use Rattle.bb_session.specs.Acting.{Acts, LostPlace, NoneBest, Plays, SendsCounts, TableBar, WorkAnswers, bar_refusal, play_of, rounds_for, start_plans_of}
 use Rattle.bb_session.specs.Scripting.{is_starved, refusal_by_end}
 use Rattle.bb_session.specs.Session.{Answers, LoadAnswer, Session, acts_after, end_by_acts, ended_status, granted_all, session_by, session_by_acts, shown, work_session, worked_on}
 use Rattle.bb_session.proofs.Barred.{fault_device, is_device_fault}
@@ -84,6 +84,7 @@ acted_script plan found (Plays script known) answers answer scripts e =
       status = e;
       starved = λ short. ap (λ s. if s then [] else (course_at play).text) short;
     }
+acted_script plan found SendsCounts answers answer scripts e = absurd (false≢true (ap is_scripts e ∙ scripts))
 acted_script plan found acts answers answer scripts e =
     absurd
     (false≢true

@@ -16,10 +16,11 @@ use Rattle.bb_shell.specs.Rounds.{RoundAnswer, answer_of, best_of, rounds_by, so
 use Rattle.bb_script_commands.specs.Held.{Known}
 use Rattle.bb_script_commands.specs.Playing.{AreScriptRounds, Played, most_script_rounds, script_played, script_rounds}
 use Rattle.bb_plan.specs.declared.plan.Work.{Work}
-use Rattle.bb_plan.specs.declared.plan.Work.TheVariants.{Act, Boot, Good, Run, Show, Write}
+use Rattle.bb_plan.specs.declared.plan.Work.TheVariants.{Act, Boot, Good, Rekey, Run, Show, Write}
 use Rattle.bb_plan.specs.declared.refusal.Refusal.{Refusal}
 use Rattle.bb_plan.specs.declared.refusal.Refusal.TheVariants as refusals
 use Rattle.bb_session.specs.Marking.{lost_place}
+use Rattle.bb_session.specs.Rekeying.{CopyCounts, no_counts}
 
 -- ---- what it is to do
 
@@ -27,6 +28,11 @@ use Rattle.bb_session.specs.Marking.{lost_place}
 abbrev pub needs_table : Work → Bool
 needs_table Show = false
 needs_table _ = true
+
+-- of a change of key nothing is asked but the counts of its load
+abbrev pub counts_copies : Work → Bool
+counts_copies Rekey = true
+counts_copies _ = false
 
 -- what was loaded for it, if a copy passed; a look loads nothing
 abbrev pub taken_by : Work → Option (List ℕ) → Option (List ℕ)
@@ -38,10 +44,11 @@ pub data TableBar : Type 0 where
   LostPlace : ℕ → TableBar
   NoneBest : TableBar
 
--- nothing is saved; the table ends the session; one table is saved; it is booted from a table on;
--- or a script is run
+-- nothing is saved; the counts of the load are sent; the table ends the session; one table is
+-- saved; it is booted from a table on; or a script is run
 pub data Acts : Type 0 where
   SavesNone : Acts
+  SendsCounts : Acts
   Stops : TableBar → Acts
   SavesOnce : List ℕ → Acts
   BootsFrom : Binding → List ℕ → Acts
@@ -67,6 +74,7 @@ known_at layout targets cause plans table = record {
 -- after a load of this table
 abbrev pub acts_of : Laid → Work → List ℕ → Acts
 acts_of layout Show table = SavesNone
+acts_of layout Rekey table = SendsCounts
 acts_of layout (Write area) table = SavesOnce area
 acts_of layout (Act actions) table = SavesOnce (after_all table actions)
 acts_of layout (Good targets) table =
@@ -103,14 +111,17 @@ refusal_by_table _ = None
 -- ---- what it is answered
 
 -- To each of its rounds, in their order. A script asks for memory between them too: `grants` is how
--- often it was granted before it was refused, where it was, and none for every other work.
+-- often it was granted before it was refused, where it was, and none for every other work. `counts`
+-- are those of the load where they are asked for, and nothing is said of them for every other work.
 pub record WorkAnswers : Type 0 where
   pub rounds : List RoundAnswer
   pub grants : Option ℕ
+  pub counts : CopyCounts
 
 -- to a work that ran these rounds, and is no script
 abbrev pub answers_to_rounds : List Round → WorkAnswers
-answers_to_rounds rounds = record { rounds = map answer_of rounds; grants = None }
+answers_to_rounds rounds =
+    record { rounds = map answer_of rounds; grants = None; counts = no_counts }
 
 abbrev pub no_answers : WorkAnswers
 no_answers = answers_to_rounds []
@@ -144,6 +155,7 @@ pub record ArePlayedRounds (known : Known) (rounds : List Round) : Type 0 where
 
 abbrev pub AreRoundsOf : List (Option StartPlan) → Acts → List Round → Type 0
 AreRoundsOf plans SavesNone rounds = rounds ≡ []
+AreRoundsOf plans SendsCounts rounds = rounds ≡ []
 AreRoundsOf plans (Stops bar) rounds = rounds ≡ []
 AreRoundsOf plans (SavesOnce table) rounds = IsSavedOnce table rounds
 AreRoundsOf plans (BootsFrom targets table) rounds = AreBootRounds targets plans table rounds
@@ -156,6 +168,7 @@ save_rounds table (answer ∷ answers) = save_round 0 table answer.save ∷ []
 -- so they come of what they are answered, one answer a round
 abbrev pub rounds_for : List (Option StartPlan) → Acts → WorkAnswers → List Round
 rounds_for plans SavesNone answers = []
+rounds_for plans SendsCounts answers = []
 rounds_for plans (Stops bar) answers = []
 rounds_for plans (SavesOnce table) answers = save_rounds table answers.rounds
 rounds_for plans (BootsFrom targets table) answers = rounds_by targets plans table answers.rounds
@@ -168,6 +181,7 @@ rounds_for plans (Plays script known) answers =
 -- commands at most
 abbrev pub most_rounds : Acts → ℕ
 most_rounds SavesNone = 0
+most_rounds SendsCounts = 0
 most_rounds (Stops bar) = 0
 most_rounds (SavesOnce table) = 1
 most_rounds (BootsFrom targets table) = all_attempts targets table
@@ -176,4 +190,8 @@ most_rounds (Plays script known) = most_script_rounds
 -- each save is made, and each start, and memory is never refused
 abbrev pub sound_answers : Acts → WorkAnswers
 sound_answers acts =
-    record { rounds = replicate (most_rounds acts) sound_answer; grants = None }
+    record {
+      rounds = replicate (most_rounds acts) sound_answer;
+      grants = None;
+      counts = no_counts;
+    }

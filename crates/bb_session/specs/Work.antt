@@ -4,7 +4,7 @@ use Rattle.std.specs.Prelude.{◌≡◌, ◌≢◌, ◌⊎◌, ℕ, ◌≤◌, L
 use Rattle.std.specs.Option.{ForSome}
 use Rattle.bb_base.specs.Faults.{counted}
 use Rattle.bb_bucket.specs.Calls.{IsQuiet}
-use Rattle.bb_copies.specs.Loading.{KeepsOutside, LoadGives, LoadImages, LoadSays, LoadsErasing, LoadsExactly}
+use Rattle.bb_copies.specs.Loading.{KeepsOutside, LoadAges, LoadGives, LoadImages, LoadSays, LoadsErasing, LoadsExactly}
 use Rattle.bb_copies.specs.Store.{used_after}
 use Rattle.bb_copies.specs.declared.answers.CopyFault.TheVariants.{ReadFault}
 use Rattle.bb_copies.specs.declared.answers.Loaded.{Loaded}
@@ -26,10 +26,12 @@ use Rattle.bb_state.specs.Kinds.{laid_form, laid_kinds}
 use Rattle.bb_state.specs.State.{IsRefused}
 use Rattle.bb_session.specs.Acting.{Acts, AreRoundsOf, Plays, WorkAnswers, acts_of, kept_before, needs_table, no_answers, start_plans_of}
 use Rattle.bb_session.specs.Looking.{first_found, passed_in}
+use Rattle.bb_session.specs.Rekeying.{CopyCounts, counts_in}
 use Rattle.bb_shell.specs.declared.boot_end.BootEnd.{BootEnd}
 use Rattle.bb_session.specs.Booting.{end_refusal, end_text}
 use Rattle.bb_plan.specs.Plan.{SessionPlan}
 use Rattle.bb_plan.specs.declared.plan.Work.{Work}
+use Rattle.bb_plan.specs.declared.plan.Work.TheVariants.{Rekey}
 use Rattle.bb_session.specs.Session.{LoadAnswer, Session, loaded_area, work_session}
 use Rattle.bb_plan.specs.Refusal.{takes_memory}
 use Rattle.bb_session.specs.declared.report.Report.{Report}
@@ -60,6 +62,7 @@ pub record IsLoadedArea (keyed : Keyed) (area : List ℕ) (loaded : Loaded) (fro
     : Type 0 where
   pub gives : LoadGives (laid_form keyed) (laid_kinds keyed.layout) area from to loaded
   pub says : LoadSays (laid_form keyed) area loaded
+  pub ages : LoadAges (laid_form keyed) (laid_kinds keyed.layout) from to loaded
   pub exact : LoadsExactly (laid_form keyed) (laid_kinds keyed.layout) area from to loaded
   pub erases : LoadsErasing (laid_form keyed) (laid_kinds keyed.layout) area from to loaded
 
@@ -71,6 +74,15 @@ pub record IsLoadedAs (keyed : Keyed) (used : Option ℕ) (from to : Device)
   pub gave : IsLoadedArea keyed area loaded from to
   pub taken : found ≡ area_taken area loaded
   pub used_is : used ≡ used_after loaded
+
+-- it answered Ok, and counted this
+pub record IsLoadedFor (keyed : Keyed) (counts : CopyCounts) (from to : Device)
+    (found : Option (List ℕ)) : Type 0 where
+  pub area : List ℕ
+  pub loaded : Loaded
+  pub gave : IsLoadedArea keyed area loaded from to
+  pub taken : found ≡ area_taken area loaded
+  pub counts_are : counts ≡ counts_in loaded
 
 -- what a load made of the device, and what it answered
 pub record IsLoaded (keyed : Keyed) (used : Option ℕ) (from to : Device) (answer : LoadAnswer)
@@ -130,6 +142,9 @@ pub record IsTableWork (plan : SessionPlan) (from to : Device) (load : LoadAnswe
   pub many : 2 ≤ plan.keyed.layout.copies
   pub loaded : IsLoaded plan.keyed used from middle load
   pub ran : IsRunAfterLoad plan used middle to load answers
+  -- where its counts are asked for, they are answered
+  pub counted :
+      plan.work ≡ Rekey → IfOk load (IsLoadedFor plan.keyed answers.counts from middle)
 
 pub record IsLookWork (plan : SessionPlan) (from to : Device) (load : LoadAnswer)
     (answers : WorkAnswers) : Type 0 where

@@ -5,6 +5,7 @@
 mod boot;
 mod mark_good;
 mod raw;
+mod rekey;
 mod report;
 mod script;
 mod store;

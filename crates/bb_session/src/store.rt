@@ -59,6 +59,7 @@ fn put(state: &mut State, work: &Work) -> Result<(), Refusal>
         }
         Work::Good(chooser) => mark(state, chooser),
         Work::Show | Work::Boot(_, _, _) | Work::Run(_, _, _, _) => unreachable!(),
+        Work::Rekey => unreachable!(),
     }
 }
 
@@ -110,7 +111,7 @@ fn say(alloc: Global, state: &State, work: &Work) -> Result<Bytes, NoMemory>
     match work {
         Work::Act(actions) => actions_text(alloc, state.layout(), state.table.bytes(), actions),
         Work::Good(chooser) => good_text(alloc, chooser, &state.table),
-        Work::Show | Work::Write(_) => Ok(Bytes::none(alloc)),
+        Work::Show | Work::Write(_) | Work::Rekey => Ok(Bytes::none(alloc)),
         Work::Boot(_, _, _) | Work::Run(_, _, _, _) => Ok(Bytes::none(alloc)),
     }
 }

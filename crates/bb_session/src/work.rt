@@ -1,8 +1,8 @@
-ghost use Rattle.std.specs.Prelude.{◌≡◌, IfErr, true};
+ghost use Rattle.std.specs.Prelude.{◌≡◌, IfErr, false, true};
 ghost use Rattle.bb_flash.specs.Cuts.{IsLater};
 ghost use Rattle.bb_flash.specs.Device.{IsDevice};
 ghost use Rattle.bb_state.specs.State.{IsOn, keyed_of, used_of};
-ghost use Rattle.bb_session.specs.Acting.{needs_table};
+ghost use Rattle.bb_session.specs.Acting.{counts_copies, needs_table};
 ghost use Rattle.bb_session.specs.Doing.{IsAtHand, IsDone};
 ghost use Rattle.bb_plan.specs.Plan.{IsPlannedFor, IsServed, plan_as};
 ghost use Rattle.bb_plan.specs.Refusal.{IsSendableRefusal};
@@ -10,6 +10,7 @@ ghost use Rattle.bb_session.specs.Work.{IsWorkedOut};
 
 use crate::boot::boot;
 use crate::raw::look;
+use crate::rekey::rekey;
 use crate::report::Report;
 use crate::script::run;
 use crate::store::{store, stores};
@@ -29,7 +30,7 @@ pub fn do_work<B: Board>(alloc: Global, board: &mut B, plan: PlannedWork) -> Res
     ensures later { IsLater (B.device board.old) (B.device board.new) }
 {
     let PlannedWork { keyed, work } = plan;
-    let state = State::mount(alloc, keyed.layout, keyed.key)?;
+    let state = State::mount(alloc, keyed.layout, keyed.key, keyed.old)?;
     work_on(alloc, board, state, work)
 }
 
@@ -49,7 +50,10 @@ fn work_on<B: Board>(
     if !needs_table(&work) {
         return look(alloc, board, &mut state);
     }
-    state.load(board)?;
+    let loaded = state.load(board)?;
+    if counts_copies(&work) {
+        return rekey(alloc, loaded);
+    }
     work_at(alloc, board, state, work)
 }
 
@@ -60,6 +64,13 @@ fn needs_table(work: &Work) -> bool
     !matches!(work, Work::Show)
 }
 
+// Whether a work only gives the counts of its load.
+fn counts_copies(work: &Work) -> bool
+    ensures { result ≡ counts_copies work.now }
+{
+    matches!(work, Work::Rekey)
+}
+
 // The work on a table that was just loaded.
 fn work_at<B: Board>(
     alloc: Global,
@@ -68,6 +79,7 @@ fn work_at<B: Board>(
     work: Work,
 ) -> Result<Report, Refusal>
     requires needs { needs_table work ≡ true }
+    requires other { counts_copies work ≡ false }
     requires served { IsServed (keyed_of state) work }
     requires hand { IsAtHand state (B.device board.old) }
     ensures did { IsDone (keyed_of state) (used_of state) state.table work
@@ -84,6 +96,7 @@ fn work_at<B: Board>(
             run(alloc, board, state, &script, chooser, cause, plans)
         }
         Work::Show => unreachable!(),
+        Work::Rekey => unreachable!(),
         Work::Write(_area) => unreachable!(),
         Work::Act(_actions) => unreachable!(),
         Work::Good(_chooser) => unreachable!(),

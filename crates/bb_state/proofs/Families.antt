@@ -1,4 +1,4 @@
--- Layouts of one family, under one key, have the same copies, which pass the same.
+-- Layouts of one family, under the same keys, have the same copies, which pass the same.
 use Rattle.std.proofs.Common.{◌≡◌, ◌∙◌, ℕ, List, None, Option, ap, map, refl}
 use Rattle.std.specs.List.{range_with_len}
 use Rattle.bb_base.specs.Form.{Form}
@@ -55,33 +55,34 @@ kinds_same one other family = ap (kinds_of any_holding) (buckets_same one other 
 
 -- ---- the records
 
--- raw records of a magic, under a key or none
-abbrev raw_of : ℕ → Option (List ℕ) → AnyFormat
-raw_of magic key = formats.Raw (record { magic = magic; key = key })
+-- raw records of a magic, under a key or none, and under an old one
+abbrev raw_of : ℕ → Option (List ℕ) → Option (List ℕ) → AnyFormat
+raw_of magic key old = formats.Raw (record { magic = magic; key = key; old = old })
 
 form_of_format : (format : FormatKind) (one other : Keyed) → SameFamily one.layout other.layout →
-    one.key ≡ other.key → one.layout.format ≡ format →
+    one.key ≡ other.key → one.old ≡ other.old → one.layout.format ≡ format →
     any_form (format_for format one) ≡ any_form (format_for format other)
-form_of_format Raw one other family key is =
-    ap (λ magic. any_form (raw_of magic None)) family.magic
-form_of_format RawHmac one other family key is =
-    ap (λ magic. any_form (raw_of magic one.key)) family.magic
-    ∙ ap (λ k. any_form (raw_of other.layout.magic k)) key
-form_of_format Dtb one other family key is =
-    ap (λ (layout : Laid). any_form (format_for Dtb (record { layout = layout; key = None }))) (family.blobs is)
+form_of_format Raw one other family key old is =
+    ap (λ magic. any_form (raw_of magic None None)) family.magic
+form_of_format RawHmac one other family key old is =
+    ap (λ magic. any_form (raw_of magic one.key one.old)) family.magic
+    ∙ ap (λ k. any_form (raw_of other.layout.magic k one.old)) key
+    ∙ ap (λ k. any_form (raw_of other.layout.magic other.key k)) old
+form_of_format Dtb one other family key old is =
+    ap (λ (layout : Laid). any_form (format_for Dtb (record { layout = layout; key = None; old = None }))) (family.blobs is)
 
 pub form_same : (one other : Keyed) → SameFamily one.layout other.layout → one.key ≡ other.key →
-    laid_form one ≡ laid_form other
-form_same one other family key =
-    form_of_format one.layout.format one other family key refl
+    one.old ≡ other.old → laid_form one ≡ laid_form other
+form_same one other family key old =
+    form_of_format one.layout.format one other family key old refl
     ∙ ap (λ format. any_form (format_for format other)) family.format
 
 -- what each copy passes, in an image of a device with pages of this size
 pub passed_same : (one other : Keyed) (page : ℕ) (image : Image) → SameFamily one.layout other.layout →
-    one.key ≡ other.key →
+    one.key ≡ other.key → one.old ≡ other.old →
     passings (laid_form one) page (laid_kinds one.layout) image
     ≡ passings (laid_form other) page (laid_kinds other.layout) image
-passed_same one other page image family key =
-    ap (λ (form : Form). passings form page (laid_kinds one.layout) image) (form_same one other family key)
+passed_same one other page image family key old =
+    ap (λ (form : Form). passings form page (laid_kinds one.layout) image) (form_same one other family key old)
     ∙ ap (λ (ks : List BucketKind). passings (laid_form other) page ks image)
     (kinds_same one.layout other.layout family)

@@ -5,6 +5,7 @@ use Rattle.bb_flash.specs.Device.{Device, content}
 use Rattle.bb_session.specs.Acting.{WorkAnswers}
 use Rattle.bb_plan.specs.Plan.{EarlyEnd, SessionPlan}
 use Rattle.bb_plan.specs.declared.refusal.Refusal.TheVariants as refusals
+use Rattle.bb_session.proofs.Aging.{leaves_ages, sends_counts}
 use Rattle.bb_session.proofs.Exact.{plan_done, plan_makes}
 use Rattle.bb_session.proofs.Faults.{work_explains, write_fault, read_fault}
 use Rattle.bb_session.proofs.Works.{has_trails, keeps_outside, leads_on}
@@ -12,7 +13,7 @@ use Rattle.bb_session.specs.Exactly.{CallsExactly, EndsAlike, ErasesExactly, Lea
 use Rattle.bb_session.specs.Session.{Answers, Session, session_by, work_session}
 use Rattle.bb_session.specs.Work.{IsWork}
 use Rattle.bb_tool.specs.Calls.{MayAnswer, session_for, session_plan_for}
-use Rattle.bb_tool.specs.Copying.{EachCalm, KeepsATrail, KeepsAtExit, KeepsOutsideCopies, KnowsWriteFaults, LeavesUnread}
+use Rattle.bb_tool.specs.Copying.{CountsItsCopies, EachCalm, KeepsNoneOld, KeepsATrail, KeepsAtExit, KeepsOutsideCopies, KnowsWriteFaults, LeavesUnread}
 use Rattle.bb_tool.specs.Ran.{Ran}
 use Rattle.bb_tool.specs.SessionAnswer.{IsFollowed}
 use Rattle.bb_tool.proofs.Endings.{From, PlanEnd, To}
@@ -41,6 +42,14 @@ on_a_trail ran answers plan answered is =
 pub beside : (ran : Ran) → KeepsOutsideCopies ran
 beside ran answers plan answered is =
     keeps_outside plan ran.before.device ran.after.device answers.load answers.work (work_of ran answers plan answered is)
+
+pub ages_of : (ran : Ran) → KeepsNoneOld ran
+ages_of ran answers plan answered is needs =
+    leaves_ages plan ran.before.device ran.after.device answers.load answers.work needs (work_of ran answers plan answered is)
+
+pub counts_of : (ran : Ran) → CountsItsCopies ran
+counts_of ran answers plan answered is rekeys =
+    sends_counts plan ran.before.device ran.after.device answers.load answers.work rekeys (work_of ran answers plan answered is)
 
 -- ---- where no call of the device failed
 

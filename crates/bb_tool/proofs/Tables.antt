@@ -27,7 +27,7 @@ use Rattle.bb_plan.specs.declared.refusal.Refusal.TheVariants as refusals
 use Rattle.bb_plan.specs.declared.status.Status.{Status}
 use Rattle.bb_plan.specs.declared.status.Status.TheVariants as statuses
 use Rattle.bb_plan.proofs.Plans.{plan_refusal}
-use Rattle.bb_session.specs.Acting.{Acts, AreRoundsOf, BootsFrom, Plays, Stops, WorkAnswers, play_of, refusal_by_table, rounds_for, start_plans_of}
+use Rattle.bb_session.specs.Acting.{Acts, AreRoundsOf, BootsFrom, Plays, SendsCounts, Stops, WorkAnswers, play_of, refusal_by_table, rounds_for, start_plans_of}
 use Rattle.bb_session.specs.Booting.{end_refusal}
 use Rattle.bb_session.specs.Scripting.{refusal_by_end}
 use Rattle.bb_session.specs.Session.{Answers, LoadAnswer, acts_after, barred_after, ended_by, ended_status, load_for, session_by_acts, shown, text_after, work_session, worked_on}
@@ -114,6 +114,7 @@ acted_end : (plan : SessionPlan) (found : Option (List ℕ)) (acts : Acts) (answ
 acted_end plan found (Plays script known) answers are =
     let play = play_of script known answers in
     inr (play_else (course_end play) (refused_in (course_at play).outside.rounds), inl refl)
+acted_end plan found SendsCounts answers are = inr (refl, inl refl)
 acted_end plan found acts answers are =
     let plans = start_plans_of plan.work in
     acts_end plan found plans acts (rounds_for plans acts answers) are

@@ -12,7 +12,7 @@ use Rattle.bb_words.specs.declared.command.Command.TheVariants as commands
 use Rattle.bb_words.specs.declared.command.RawAction.TheVariants.{Look, Write}
 use Rattle.bb_words.specs.declared.given.Given.{Given}
 use Rattle.bb_words.specs.declared.option.Valued.{Valued}
-use Rattle.bb_words.specs.declared.option.Valued.TheVariants.{Input, Name, Get as GetOption, Set as SetOption, Settings, Script, Key, Cause}
+use Rattle.bb_words.specs.declared.option.Valued.TheVariants.{Input, Name, Get as GetOption, Set as SetOption, Settings, Script, Key, OldKey, Cause}
 use Rattle.bb_words.specs.declared.row.Row.{Row}
 use Rattle.bb_words.specs.declared.row.Row.TheVariants as rows
 use Rattle.bb_words.specs.FirstBad.{Begins}
@@ -89,6 +89,19 @@ shell_completed start file given None (Some script) = (codes "-c" ∷ [] ∷ [],
 shell_completed start file given (Some settings) None = (codes "-x" ∷ [] ∷ [], _, refl)
 shell_completed start file given (Some settings) (Some script) = ([], _, refl)
 
+-- and the keys, in one
+abbrev with_keys : Given → List ℕ → Option (List ℕ) → Option (List ℕ) → Given
+with_keys given file key old = record given { file = Some file; key = key; old_key = old }
+
+rekey_completed : (start : ℕ) (file : List ℕ) (given : Given) (key old : Option (List ℕ)) →
+    Continues start (Options rows.Rekey None (with_keys given file key old)) []
+unfolding words_from
+rekey_completed start file given None None =
+    (codes "-k" ∷ [] ∷ codes "--old-key" ∷ [] ∷ [], _, refl)
+rekey_completed start file given None (Some old) = (codes "-k" ∷ [] ∷ [], _, refl)
+rekey_completed start file given (Some key) None = (codes "--old-key" ∷ [] ∷ [], _, refl)
+rekey_completed start file given (Some key) (Some old) = ([], _, refl)
+
 row_completed : (row : Row) (given : Given) (start : ℕ) (file : List ℕ) →
     Continues start (Options row None (record given { file = Some file })) []
 unfolding words_from
@@ -97,6 +110,8 @@ row_completed rows.MarkGood given start file = mark_completed start file given g
 row_completed rows.Boot given start file = boot_completed start file given given.settings
 row_completed rows.Shell given start file =
     shell_completed start file given given.settings given.script
+row_completed rows.Rekey given start file =
+    rekey_completed start file given given.key given.old_key
 
 options_completed : (start : ℕ) (row : Row) (given : Given) →
     Continues start (Options row None given) []
@@ -120,6 +135,9 @@ value_completed start row Script given =
     ([] ∷ rest.0, rest.1, rest.2)
 value_completed start row Key given =
     let rest = options_completed (start + 1) row (record given { key = Some [] }) in
+    ([] ∷ rest.0, rest.1, rest.2)
+value_completed start row OldKey given =
+    let rest = options_completed (start + 1) row (record given { old_key = Some [] }) in
     ([] ∷ rest.0, rest.1, rest.2)
 value_completed start row Cause given =
     let rest = options_completed (start + 1) row (record given { cause = Some Other }) in

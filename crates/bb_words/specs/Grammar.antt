@@ -14,7 +14,7 @@ use Rattle.bb_words.specs.declared.command.RawAction.TheVariants.{Look, Write}
 use Rattle.bb_words.specs.declared.command.RawCommand.{RawCommand}
 use Rattle.bb_words.specs.declared.given.Given.{Given}
 use Rattle.bb_words.specs.declared.option.Valued.{Valued}
-use Rattle.bb_words.specs.declared.option.Valued.TheVariants.{Input, Name, Get as GetOption, Set as SetOption, Settings, Script, Key, Cause}
+use Rattle.bb_words.specs.declared.option.Valued.TheVariants.{Input, Name, Get as GetOption, Set as SetOption, Settings, Script, Key, OldKey, Cause}
 use Rattle.bb_words.specs.declared.row.Row.{Row}
 use Rattle.bb_words.specs.declared.row.Row.TheVariants as rows
 use Rattle.bb_words.specs.Options.{cause_word_of, has_sign, set_in}
@@ -72,6 +72,7 @@ own_form SetOption = codes "-s"
 own_form Settings = codes "-c"
 own_form Script = codes "-x"
 own_form Key = codes "-k"
+own_form OldKey = codes "--old-key"
 own_form Cause = codes "--cause"
 
 -- whether there is a long form besides, and it
@@ -79,6 +80,7 @@ abbrev pub has_long : Valued → Bool
 has_long Settings = false
 has_long Script = false
 has_long Key = false
+has_long OldKey = false
 has_long Cause = false
 has_long _ = true
 
@@ -90,6 +92,7 @@ long_form SetOption = codes "--set"
 long_form Settings = []
 long_form Script = []
 long_form Key = []
+long_form OldKey = []
 long_form Cause = []
 
 -- the words of an item
@@ -120,8 +123,8 @@ has_item row (Takes form valued value) =
     has_option row valued && (has_form form valued && is_value valued value)
 has_item row _ = has_dumps row
 
--- the file, the state's name, the files of the settings, of the script and of the key, the cause
--- and the action that an item gives
+-- the file, the state's name, the files of the settings, of the script, of the key and of the old
+-- one, the cause and the action that an item gives
 abbrev pub file_in : Item → Option (List ℕ)
 file_in (Takes form Input value) = Some value
 file_in _ = None
@@ -142,6 +145,10 @@ abbrev pub key_file_in : Item → Option (List ℕ)
 key_file_in (Takes form Key value) = Some value
 key_file_in _ = None
 
+abbrev pub old_file_in : Item → Option (List ℕ)
+old_file_in (Takes form OldKey value) = Some value
+old_file_in _ = None
+
 abbrev pub cause_in : Item → Option CauseWord
 cause_in (Takes form Cause value) = cause_word_of value
 cause_in _ = None
@@ -152,6 +159,7 @@ action_in (Takes form Name value) = None
 action_in (Takes form Settings value) = None
 action_in (Takes form Script value) = None
 action_in (Takes form Key value) = None
+action_in (Takes form OldKey value) = None
 action_in (Takes form Cause value) = None
 action_in (Takes form GetOption value) = Some (Get value)
 action_in (Takes form SetOption value) = set_in value
@@ -160,8 +168,8 @@ action_in LongDump = Some Dump
 action_in ShellDump = Some DumpShell
 
 -- the command's name, and items that it has in any order: at most one file, one name, one file of
--- settings, one of a script, one of a key and one cause, and the actions in their order; they make
--- the command where those are there that must be
+-- settings, one of a script, one of a key, one of an old key and one cause, and the actions in
+-- their order; they make the command where those are there that must be
 pub record IsSpelt (row : Row) (words : List (List ℕ)) (command : Command) : Type 0 where
   pub items : List Item
   pub given : Given
@@ -172,6 +180,7 @@ pub record IsSpelt (row : Row) (words : List (List ℕ)) (command : Command) : T
   pub settings_are : filter_map settings_in items ≡ option_to_list given.settings
   pub script_is : filter_map script_file_in items ≡ option_to_list given.script
   pub key_is : filter_map key_file_in items ≡ option_to_list given.key
+  pub old_is : filter_map old_file_in items ≡ option_to_list given.old_key
   pub cause_is : filter_map cause_in items ≡ option_to_list given.cause
   pub actions_are : filter_map action_in items ≡ given.actions
   pub made : command_of row given ≡ Some command
@@ -186,6 +195,7 @@ Spells words (commands.State state) = IsSpelt rows.State words (commands.State s
 Spells words (commands.MarkGood mark) = IsSpelt rows.MarkGood words (commands.MarkGood mark)
 Spells words (commands.Boot boot) = IsSpelt rows.Boot words (commands.Boot boot)
 Spells words (commands.Shell shell) = IsSpelt rows.Shell words (commands.Shell shell)
+Spells words (commands.Rekey rekey) = IsSpelt rows.Rekey words (commands.Rekey rekey)
 Spells words (commands.Menu menu) = words ≡ codes "menu" ∷ codes "--dir" ∷ menu.dir ∷ []
 Spells words (commands.Drill numbers) =
     (rest : List (List ℕ)) × (words ≡ codes "drill" ∷ rest) × IsDrill rest numbers

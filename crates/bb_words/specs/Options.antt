@@ -9,7 +9,7 @@ use Rattle.bb_words.specs.declared.command.CauseWord.{CauseWord}
 use Rattle.bb_words.specs.declared.command.CauseWord.TheVariants.{PowerOn, Reset, Other}
 use Rattle.bb_words.specs.declared.given.Given.{Given}
 use Rattle.bb_words.specs.declared.option.Valued.{Valued}
-use Rattle.bb_words.specs.declared.option.Valued.TheVariants.{Input, Name, Get as GetOption, Set as SetOption, Settings, Script, Key, Cause}
+use Rattle.bb_words.specs.declared.option.Valued.TheVariants.{Input, Name, Get as GetOption, Set as SetOption, Settings, Script, Key, OldKey, Cause}
 
 -- ---- what a word is
 
@@ -33,6 +33,7 @@ valued_of word =
     else if bytes_eq word (codes "-k") then Some Key
     else if bytes_eq word (codes "-x") then Some Script
     else if bytes_eq word (codes "--cause") then Some Cause
+    else if bytes_eq word (codes "--old-key") then Some OldKey
     else long_of word
 
 -- a text has a `=`, and what stands before the first and what after it
@@ -77,6 +78,7 @@ none_given = record {
   settings = None;
   script = None;
   key = None;
+  old_key = None;
   cause = None;
   actions = [];
 }
@@ -96,6 +98,7 @@ with_option Name value given = Some (record given { name = Some value })
 with_option Settings value given = Some (record given { settings = Some value })
 with_option Script value given = Some (record given { script = Some value })
 with_option Key value given = Some (record given { key = Some value })
+with_option OldKey value given = Some (record given { old_key = Some value })
 with_option Cause value given =
     option_map (λ cause. record given { cause = Some cause }) (cause_word_of value)
 with_option GetOption value given = Some (with_action (Get value) given)
@@ -108,6 +111,7 @@ given_once Name given = is_some given.name
 given_once Settings given = is_some given.settings
 given_once Script given = is_some given.script
 given_once Key given = is_some given.key
+given_once OldKey given = is_some given.old_key
 given_once Cause given = is_some given.cause
 given_once GetOption given = false
 given_once SetOption given = false

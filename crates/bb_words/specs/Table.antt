@@ -1,6 +1,6 @@
 -- The table of commands whose options come in any order: how each is called, which options it has,
 -- and which must be there. A command more is a row more.
-use Rattle.std.specs.Prelude.{ℕ, Bool, true, false, ◌&&◌, ◌||◌, not, List, codes, Option, Some, None, option_and_then, unwrap_or, if◌then◌else◌}
+use Rattle.std.specs.Prelude.{ℕ, Bool, true, false, ◌&&◌, ◌||◌, not, List, codes, Option, Some, None, is_some, option_and_then, unwrap_or, if◌then◌else◌}
 use Rattle.std.specs.Option.{option_map}
 use Rattle.std.specs.Str.{bytes_eq}
 use Rattle.bb_words.specs.declared.command.BootCommand.{BootCommand}
@@ -11,7 +11,7 @@ use Rattle.bb_words.specs.declared.command.Command.TheVariants as commands
 use Rattle.bb_words.specs.declared.command.Described.{Described}
 use Rattle.bb_words.specs.declared.given.Given.{Given}
 use Rattle.bb_words.specs.declared.option.Valued.{Valued}
-use Rattle.bb_words.specs.declared.option.Valued.TheVariants.{Input, Name, Get as GetOption, Set as SetOption, Settings, Script, Key, Cause}
+use Rattle.bb_words.specs.declared.option.Valued.TheVariants.{Input, Name, Get as GetOption, Set as SetOption, Settings, Script, Key, OldKey, Cause}
 use Rattle.bb_words.specs.declared.row.Row.{Row}
 use Rattle.bb_words.specs.declared.row.Row.TheVariants as rows
 use Rattle.bb_words.specs.Options.{given_once}
@@ -22,6 +22,7 @@ command_name_of rows.State = codes "state"
 command_name_of rows.MarkGood = codes "mark-good"
 command_name_of rows.Boot = codes "boot"
 command_name_of rows.Shell = codes "shell"
+command_name_of rows.Rekey = codes "rekey"
 
 -- the command that is called so
 abbrev pub row_of : List ℕ → Option Row
@@ -30,13 +31,15 @@ row_of word =
     else if bytes_eq word (command_name_of rows.MarkGood) then Some rows.MarkGood
     else if bytes_eq word (command_name_of rows.Boot) then Some rows.Boot
     else if bytes_eq word (command_name_of rows.Shell) then Some rows.Shell
+    else if bytes_eq word (command_name_of rows.Rekey) then Some rows.Rekey
     else None
 
--- whether every row has an option: it says which state, or by which key
+-- whether every row has an option: it says which state, or by which keys
 abbrev pub is_common : Valued → Bool
 is_common Input = true
 is_common Name = true
 is_common Key = true
+is_common OldKey = true
 is_common _ = false
 
 -- which options a row has besides
@@ -67,7 +70,10 @@ cause_given given = unwrap_or given.cause Other
 -- the state that is named, where its file is given
 abbrev pub described_in : Given → Option Described
 described_in given =
-    option_map (λ file. record { file = file; name = given.name; key = given.key }) given.file
+    option_map
+    (λ file.
+    record { file = file; name = given.name; key = given.key; old_key = given.old_key })
+    given.file
 
 -- what `boot` is given: the state, the settings and the cause
 abbrev pub boot_in : Given → Option BootCommand
@@ -79,8 +85,16 @@ boot_in given =
     given.settings)
     (described_in given)
 
+-- the command `rekey`, where both keys are said
+abbrev pub rekey_of : Described → Option Command
+rekey_of described =
+    if is_some described.key && is_some described.old_key
+    then Some (commands.Rekey (record { described = described }))
+    else None
+
 -- the command that its options make, where those are given that must be: of `state` the file, of
--- `mark-good`, `boot` and `shell` that of the settings too, and of `shell` that of the script
+-- `mark-good`, `boot` and `shell` that of the settings too, of `shell` that of the script, and of
+-- `rekey` those of both keys
 abbrev pub command_of : Row → Given → Option Command
 command_of rows.State given =
     option_map
@@ -99,6 +113,7 @@ command_of rows.Shell given =
     (λ boot.
     option_map (λ script. commands.Shell (record { boot = boot; script = script })) given.script)
     (boot_in given)
+command_of rows.Rekey given = option_and_then rekey_of (described_in given)
 
 -- whether an option may come: the command has it, and it wasn't given before if it comes once
 abbrev pub may_come : Row → Valued → Given → Bool

@@ -8,6 +8,7 @@ pub enum Command {
     MarkGood(MarkGoodCommand),
     Boot(BootCommand),
     Shell(ShellCommand),
+    Rekey(RekeyCommand),
     Menu(MenuCommand),
     Drill(DrillNumbers),
 }
@@ -21,6 +22,8 @@ pub struct Described {
     pub name: Option<Text>,
     /// `-k`: the file with the key, if that is said.
     pub key: Option<Text>,
+    /// `--old-key`: the file with the key that is being given up, if that is said.
+    pub old_key: Option<Text>,
 }
 
 /// `raw`: a raw record in three strides of a device.
@@ -75,6 +78,14 @@ pub struct ShellCommand {
     pub boot: BootCommand,
     /// `-x`: the file with the script.
     pub script: Text,
+}
+
+/// `rekey`: copies under the old key are written under the key, and those that couldn't be are
+/// counted.
+#[derive(Debug, Drop)]
+pub struct RekeyCommand {
+    /// Both keys are said.
+    pub described: Described,
 }
 
 /// `menu`: the order of the boot entries in a folder.

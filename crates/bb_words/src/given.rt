@@ -5,15 +5,15 @@ ghost use Rattle.bb_words.specs.Answer.{IsSized, Refuses};
 ghost use Rattle.bb_words.specs.Options.{given_once, none_given, set_in, joined_value_in};
 ghost use Rattle.bb_words.specs.Options.{valued_of};
 ghost use Rattle.bb_words.specs.Options.{with_option};
-ghost use Rattle.bb_words.specs.Table.{may_come};
+ghost use Rattle.bb_words.specs.Table.{may_come, rekey_of};
 ghost use Rattle.bb_words.specs.Words.{Options, after_joined, after_option, after_value};
 ghost use Rattle.bb_words.specs.Words.{before_value, command_at, next};
 
 use crate::option::{Valued, cause_of, cut_at_sign, dump_of, value_in, valued_of};
 use crate::row::Row;
 use crate::{
-    Action, ActionList, BootCommand, CauseWord, Command, Described, MarkGoodCommand, ShellCommand,
-    StateCommand, WordsError,
+    Action, ActionList, BootCommand, CauseWord, Command, Described, MarkGoodCommand, RekeyCommand,
+    ShellCommand, StateCommand, WordsError,
 };
 use bb_base::{NoMemory, Text};
 use std::alloc::Global;
@@ -26,6 +26,7 @@ pub(crate) struct Given {
     pub settings: Option<Text>,
     pub script: Option<Text>,
     pub key: Option<Text>,
+    pub old_key: Option<Text>,
     pub cause: Option<CauseWord>,
     pub actions: ActionList,
 }
@@ -41,6 +42,7 @@ impl Given {
             settings: None,
             script: None,
             key: None,
+            old_key: None,
             cause: None,
             actions: ActionList::none(alloc),
         }
@@ -127,6 +129,7 @@ impl Given {
             Valued::Settings => self.settings.is_some(),
             Valued::Script => self.script.is_some(),
             Valued::Key => self.key.is_some(),
+            Valued::OldKey => self.old_key.is_some(),
             Valued::Cause => self.cause.is_some(),
             Valued::Get | Valued::Set => false,
         }
@@ -150,6 +153,7 @@ impl Given {
             Valued::Settings => self.settings = Some(Text::of(alloc, value)?),
             Valued::Script => self.script = Some(Text::of(alloc, value)?),
             Valued::Key => self.key = Some(Text::of(alloc, value)?),
+            Valued::OldKey => self.old_key = Some(Text::of(alloc, value)?),
             Valued::Cause => self.cause = Some(cause_of(value).ok_or(WordsError::BadWord(place))?),
             Valued::Get => self.actions.push(Action::Get(Text::of(alloc, value)?))?,
             Valued::Set => {
@@ -181,6 +185,7 @@ impl Given {
             file,
             name: self.name,
             key: self.key,
+            old_key: self.old_key,
         };
         match (row, self.settings, self.script) {
             (Row::State, _, _) => Ok(Command::State(StateCommand {
@@ -198,6 +203,7 @@ impl Given {
                 boot: boot_by(described, settings, self.cause),
                 script,
             })),
+            (Row::Rekey, _, _) => rekey_by(described).ok_or(WordsError::BadWord(place)),
             _ => Err(WordsError::BadWord(place)),
         }
     }
@@ -216,6 +222,16 @@ fn boot_by(described: Described, settings: Text, cause: Option<CauseWord>) -> Bo
         settings,
         cause: cause.unwrap_or(CauseWord::Other),
     }
+}
+
+// The command `rekey`, where both keys are said.
+fn rekey_by(described: Described) -> Option<Command>
+    ensures { result ≡ rekey_of described }
+{
+    if described.key.is_none() || described.old_key.is_none() {
+        return None;
+    }
+    Some(Command::Rekey(RekeyCommand { described }))
 }
 
 // The set that VAR=VALUE asks for, `None` where the text has no `=`.

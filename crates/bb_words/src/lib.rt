@@ -17,7 +17,7 @@ mod word;
 
 pub use command::{
     Action, ActionList, BootCommand, CauseWord, Command, Described, DrillNumbers, MarkGoodCommand,
-    MenuCommand, RawAction, RawCommand, ShellCommand, StateCommand,
+    MenuCommand, RawAction, RawCommand, RekeyCommand, ShellCommand, StateCommand,
 };
 pub use error::WordsError;
 pub use law::{law_accepted_words, law_first_bad_word};

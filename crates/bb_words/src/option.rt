@@ -21,6 +21,8 @@ pub(crate) enum Valued {
     Settings,
     /// `-k`, which has no long form
     Key,
+    /// `--old-key`, whose value is the next word alone
+    OldKey,
     /// `-x`, which has no long form
     Script,
     /// `--cause`, whose value is the next word alone
@@ -28,11 +30,14 @@ pub(crate) enum Valued {
 }
 
 impl Valued {
-    /// Whether every row has it: it says which state, or by which key.
+    /// Whether every row has it: it says which state, or by which keys.
     pub(crate) fn is_common(self) -> bool
         ensures { result ≡ is_common self }
     {
-        matches!(self, Valued::Input | Valued::Name | Valued::Key)
+        matches!(
+            self,
+            Valued::Input | Valued::Name | Valued::Key | Valued::OldKey
+        )
     }
 }
 
@@ -60,6 +65,7 @@ pub(crate) fn valued_of(word: &str) -> Option<Valued>
         "-k" => Some(Valued::Key),
         "-x" => Some(Valued::Script),
         "--cause" => Some(Valued::Cause),
+        "--old-key" => Some(Valued::OldKey),
         _ => long_of(word),
     }
 }

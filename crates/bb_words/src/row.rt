@@ -11,6 +11,7 @@ pub(crate) enum Row {
     MarkGood,
     Boot,
     Shell,
+    Rekey,
 }
 
 impl Row {
@@ -23,6 +24,7 @@ impl Row {
             "mark-good" => Some(Row::MarkGood),
             "boot" => Some(Row::Boot),
             "shell" => Some(Row::Shell),
+            "rekey" => Some(Row::Rekey),
             _ => None,
         }
     }
@@ -43,7 +45,7 @@ impl Row {
             Valued::Settings => matches!(self, Row::MarkGood | Row::Boot | Row::Shell),
             Valued::Script => matches!(self, Row::Shell),
             Valued::Cause => matches!(self, Row::Boot | Row::Shell),
-            Valued::Input | Valued::Name | Valued::Key => false,
+            Valued::Input | Valued::Name | Valued::Key | Valued::OldKey => false,
         }
     }
 
