@@ -37,7 +37,9 @@ two = record {
   storage = Stride 64;
   geometry = record { size = 1048576; page = 1; block = 0 };
   region = record { at = 0; size = 192 };
+  skip_bad = false;
   copies = 3;
+  places = [];
   area_len = 20;
   vars = two_vars;
 }

@@ -1,5 +1,5 @@
 -- An erase of a block leaves it blank, and is counted in its own number.
-use Rattle.std.proofs.Common.{◌≡◌, ℕ, ◌+◌, ◌-◌, ◌*◌, ◌/◌, ◌%◌, ◌<◌, ◌≤◌, ◌++◌, List, [], length, take, drop, replicate, refl, sym, ap, ◌∙◌, arith, subst, option_map}
+use Rattle.std.proofs.Common.{◌≡◌, Bool, ℕ, ◌+◌, ◌-◌, ◌*◌, ◌/◌, ◌%◌, ◌<◌, ◌≤◌, ◌++◌, List, [], length, take, drop, replicate, refl, sym, ap, ◌∙◌, arith, subst, option_map}
 use Rattle.std.proofs.Math.ListN.{drop_of_length-le}
 use Rattle.std.proofs.Math.Nat.{zero-div, zero-mod}
 use Rattle.std.proofs.lemmas.List.{append-nil, drop-replicate, length-replicate, length-take, take-replicate}
@@ -32,13 +32,18 @@ overwritten_whole new old all =
 blanked :
     (page size : ℕ) (part : Image) →
     0 < page → size % page ≡ 0 → length part.bytes ≡ size → length part.health ≤ size / page →
+    part.marked ≡ [] →
     put_at page 0 (replicate size 255) part ≡ erased_block page size
-blanked page size part some whole long pages =
+blanked page size part some whole long pages none =
     let blank : List ℕ = replicate size 255 in
     let len : length blank ≡ size = length-replicate {A = ℕ} size 255 in
     let fine : List Health = replicate (size / page) Fine in
     let count : length fine ≡ size / page = length-replicate {A = Health} (size / page) Fine in
-    same_image _ _ _ _
+    ap
+    (λ (marked : List Bool).
+    let there : Image = put_at page 0 blank part in
+    let x : Image = record { bytes = there.bytes; health = there.health; marked = marked } in x) none
+    ∙ same_image _ _ _ _
     (overwritten_whole blank part.bytes (omega arith))
     (ap (λ n. with_items_at (0 / page) (replicate (page_count page 0 n) Fine) part.health) len
     ∙ ap (λ k. with_items_at k (replicate (page_count page 0 size) Fine) part.health) (zero-div page)
@@ -94,6 +99,7 @@ part_erased region geometry image some lies whole =
     ∙ part_programmed region geometry 0 blank image some lies (omega arith) whole
     ∙ blanked page region.size (part_of page region image) some lies.whole (part_size geometry image region lies whole)
     (health_size page region.at region.size image.health some lies.aligned lies.whole)
+    refl
 
 module _ (block : Block) where
   -- the block's number on the device gives its place

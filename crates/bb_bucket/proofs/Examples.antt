@@ -14,10 +14,11 @@ with_page : ℕ → Health → Image
 with_page before health = record {
   bytes = replicate 64 255;
   health = replicate before Fine ++ health ∷ replicate 63 Fine;
+  marked = [];
 }
 
 blank : Image
-blank = record { bytes = replicate 64 255; health = replicate 64 Fine }
+blank = record { bytes = replicate 64 255; health = replicate 64 Fine; marked = [] }
 
 -- the record of 25 bytes of the area `123456789` under the magic 0x12345678
 raw : List ℕ
@@ -30,6 +31,7 @@ aged : ℕ → Health → Image
 aged before health = record {
   bytes = (begun_with (with_header raw) blank).bytes;
   health = (with_page before health).health;
+  marked = [];
 }
 
 nothing_in_a_blank_stride : stride_candidate blank ≡ None
@@ -83,6 +85,7 @@ block_with : List ℕ → Health → Image
 block_with rec health = record {
   bytes = ((one_block_kind small_block).after_write rec blank).bytes;
   health = Fine ∷ health ∷ Fine ∷ Fine ∷ [];
+  marked = [];
 }
 
 entry_of_five_bytes :

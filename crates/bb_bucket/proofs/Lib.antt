@@ -8,6 +8,7 @@ pub mod InPieces
 pub mod OneBlockCalls
 pub mod OneCall
 pub mod Making
+pub mod Marks
 pub mod Outcomes
 pub mod Pages
 pub mod Programs
@@ -15,4 +16,5 @@ pub mod Quiet
 pub mod Runs
 pub mod Sights
 pub mod StrideCalls
+pub mod Wearing
 pub mod Within

@@ -1,13 +1,14 @@
 -- What holds of a result, from another fact of it, or of a result that answers Ok alike.
-use Rattle.std.proofs.Common.{◌≡◌, ◌+◌, ◌∙◌, List, ℕ, Bool, Result, Ok, Err, IfOk, OnOk, inl, inr, ap, sym}
+use Rattle.std.proofs.Common.{◌≡◌, ◌+◌, ◌∙◌, List, ℕ, Bool, ◌&&◌, Result, Ok, Err, IfOk, IsOk, OnOk, inl, inr, ap, sym, refl}
 use Rattle.std.specs.Option.{ForSome}
 use Rattle.std.specs.Prelude.{is_err}
 use Rattle.bb_base.specs.Faults.{counted}
 use Rattle.bb_flash.specs.Device.{Device, moment}
 use Rattle.bb_flash.specs.Image.{Image}
 use Rattle.bb_flash.specs.declared.region.Region.{Region}
-use Rattle.bb_bucket.specs.Calls.{ErasesWhere, FailsToLook, IsBucketVoid, IsBucketWrite, Leaves, MakesCalls, calls_of_write}
+use Rattle.bb_bucket.specs.Calls.{ErasesWhere, FailsToLook, FailsToMark, IsBucketVoid, IsBucketWrite, Leaves, MakesCalls, calls_of_write}
 use Rattle.bb_bucket.specs.Kind.{BucketKind, part_of, with_most}
+use Rattle.bb_bucket.proofs.Marks.{wears_as}
 
 pub ok_weaker : {T E : Type 0} (P Q : T → Type 0) (r : Result T E) → ((x : T) → P x → Q x) → IfOk r P → IfOk r Q
 ok_weaker P Q (Ok x) f p = f x p
@@ -25,6 +26,16 @@ on_ok_as P (Ok x) (Ok y) e p = p
 on_ok_as P (Ok x) (Err f) e p = tt
 on_ok_as P (Err d) (Ok y) e p = absurd cc
 on_ok_as P (Err d) (Err f) e p = tt
+
+ok_as : {T U E : Type 0} (one : Result T E) (other : Result U E) → is_err other ≡ is_err one → IsOk one → IsOk other
+ok_as (Ok x) (Ok y) e p = refl
+ok_as (Ok x) (Err f) e p = absurd cc
+ok_as (Err d) other e p = absurd cc
+
+marks_as : {T U E : Type 0} (kind : BucketKind) (from to : Device) (one : Result T E) (other : Result U E) →
+    is_err other ≡ is_err one → FailsToMark kind one from to → FailsToMark kind other from to
+marks_as kind from to one other e h =
+    record { marks = h.marks; done = ok_as one other e h.done; faults = h.faults; breaks = h.breaks }
 
 makes_as : {T U E : Type 0} (region : Region) (f : Image → ℕ) (from to : Device) (one : Result T E) (other : Result U E) →
     is_err other ≡ is_err one → MakesCalls one region f from to → MakesCalls other region f from to
@@ -59,6 +70,7 @@ write_as kind knows_place rec from to one other e h = record {
     | inr fails ↦ inr (looks_as knows_place from to one other e fails)
   ];
   reads = h.reads;
+  wears = wears_as kind.region (knows_place && is_err one) (knows_place && is_err other) from to (ap (λ f. knows_place && f) e) h.wears;
 }
 
 pub void_as : {T U E : Type 0} (kind : BucketKind) (from to : Device) (one : Result T E) (other : Result U E) →
@@ -68,9 +80,14 @@ void_as kind from to one other e h = record {
   calls = h.calls;
   within = h.within;
   erases = on_ok_as (ErasesWhere kind.region (λ region. kind.void_erases) from to) one other e h.erases;
-  made = makes_as kind.region (λ region. 1) from to one other e h.made;
-  faults = h.faults ∙ ap (λ fails. counted fails from.faults) (sym e);
+  made = λ none. makes_as kind.region (λ region. 1) from to one other e (h.made none);
+  most = h.most;
+  faults = elim h.faults [
+    | inl same ↦ inl (same ∙ ap (λ fails. counted fails from.faults) (sym e))
+    | inr fails ↦ inr (marks_as kind from to one other e fails)
+  ];
   read_faults = h.read_faults;
+  wears = h.wears;
 }
 
 -- ---- where only shorter records are written, a call is what it is without that
@@ -91,6 +108,7 @@ write_most len kind knows_place rec from to result h = record {
   faults = h.faults;
   read_faults = h.read_faults;
   reads = h.reads;
+  wears = h.wears;
 }
 
 pub void_most : {T E : Type 0} (len : ℕ) (kind : BucketKind) (from to : Device) (result : Result T E) →
@@ -105,6 +123,17 @@ void_most len kind from to result h = record {
   within = h.within;
   erases = h.erases;
   made = h.made;
-  faults = h.faults;
+  most = h.most;
+  faults = elim h.faults [
+    | inl same ↦ inl same
+    | inr fails ↦ inr (record { marks = fails.marks; done = fails.done; faults = fails.faults; breaks = fails.breaks })
+  ];
   read_faults = h.read_faults;
+  wears = record {
+    broke = h.wears.broke;
+    barred = h.wears.barred;
+    within = h.wears.within;
+    dead = h.wears.dead;
+    own = h.wears.own;
+  };
 }

@@ -1,5 +1,5 @@
 -- A program in a region writes over some bytes of the region, and leaves all else of it.
-use Rattle.std.proofs.Common.{◌≡◌, ℕ, ◌+◌, ◌-◌, ◌*◌, ◌/◌, ◌%◌, ◌<◌, ◌≤◌, ◌++◌, List, length, take, drop, replicate, Option, Some, None, refl, sym, ap, ◌∙◌, arith, subst, option_map, append_assoc, length-drop, take-add, inl, inr, ◌⊎◌}
+use Rattle.std.proofs.Common.{◌≡◌, ℕ, ◌+◌, ◌-◌, ◌*◌, ◌/◌, ◌%◌, ◌<◌, ◌≤◌, ◌++◌, Bool, List, length, take, drop, replicate, Option, Some, None, refl, sym, ap, ◌∙◌, arith, subst, option_map, append_assoc, length-drop, take-add, inl, inr, ◌⊎◌}
 use Rattle.std.proofs.Math.Seq.{take-append-add}
 use Rattle.std.proofs.lemmas.List.{drop_at, length-take-le, length-replicate, drop-drop, drop-take, take-take}
 use Rattle.bb_flash.specs.declared.geometry.Geometry.{Geometry}
@@ -49,8 +49,8 @@ overwritten_part first size at new old fits reached =
     ∙ ap (λ k. take at (take size part) ++ (new ++ drop (at + n) (take k part))) (sym whole)
     ∙ sym (append_assoc (take at (take size part)) new (drop (at + n) (take size part)))
 
-pub same_image : (a b : List ℕ) (h k : List Health) → a ≡ b → h ≡ k → (let x : Image = record { bytes = a; health = h } in x) ≡ record { bytes = b; health = k }
-same_image a b h k p q = ap (λ (bytes : List ℕ). (let x : Image = record { bytes = bytes; health = h } in x)) p ∙ ap (λ (health : List Health). (let x : Image = record { bytes = b; health = health } in x)) q
+pub same_image : {m : List Bool} (a b : List ℕ) (h k : List Health) → a ≡ b → h ≡ k → (let x : Image = record { bytes = a; health = h; marked = m } in x) ≡ record { bytes = b; health = k; marked = m }
+same_image {m} a b h k p q = ap (λ (bytes : List ℕ). (let x : Image = record { bytes = bytes; health = h; marked = m } in x)) p ∙ ap (λ (health : List Health). (let x : Image = record { bytes = b; health = health; marked = m } in x)) q
 
 health_part :
     (page first size at n : ℕ) (pages : List Health) →

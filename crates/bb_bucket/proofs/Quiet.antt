@@ -1,5 +1,5 @@
 -- A read changes nothing that a device tells but the number of its reads.
-use Rattle.std.proofs.Common.{◌≡◌, Bool, Option, Some, None, Result, IsTrue, refl, sym, ap, ◌∙◌, option_map, subst}
+use Rattle.std.proofs.Common.{◌≡◌, Bool, Option, Some, None, Result, IsTrue, refl, sym, ap, ◌∙◌, option_map, subst, arith}
 use Rattle.std.specs.Result.{is_ok}
 use Rattle.bb_flash.specs.Calls.{IsReadCall, told_after_read}
 use Rattle.bb_flash.specs.Device.{Device, IsDevice, ReadKeeps, Told}
@@ -8,6 +8,7 @@ use Rattle.bb_flash.proofs.Readings.{keeps_of_read}
 use Rattle.bb_flash.specs.declared.geometry.Geometry.{Geometry}
 use Rattle.bb_bucket.specs.Calls.{Agrees, HasFound, IsQuiet, but_reads, candidate_in, told_but_reads}
 use Rattle.bb_bucket.specs.Kind.{Holding, part_of}
+use Rattle.bb_bucket.proofs.Marks.{broke_twice, broken_of_read}
 
 counted_but_reads : (done : Bool) (told : Option Told) →
     option_map but_reads (option_map (told_after_read done) told) ≡ option_map but_reads told
@@ -29,6 +30,7 @@ quiet_of_read result from to call =
       later = call.later;
       starts = record { starts = keeps.starts; start_faults = keeps.start_faults };
       whole = call.whole;
+      broke = broken_of_read result from to call;
     }
 
 pub quiet_same : (device : Device) → IsDevice device → IsQuiet device device
@@ -37,6 +39,7 @@ quiet_same device whole = record {
   later = later_same device;
   starts = record { starts = refl; start_faults = refl };
   whole = whole;
+  broke = λ more. absurd (omega (arith, more));
 }
 
 pub quiet_joined : (one two three : Device) → IsQuiet one two → IsQuiet two three →
@@ -49,6 +52,7 @@ quiet_joined one two three h k = record {
     start_faults = k.starts.start_faults ∙ h.starts.start_faults;
   };
   whole = k.whole;
+  broke = broke_twice one two three h.later k.later h.broke k.broke;
 }
 
 -- what the device holds isn't its number of reads

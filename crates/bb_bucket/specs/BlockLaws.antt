@@ -1,5 +1,5 @@
 -- What a device says of a block that it holds.
-use Rattle.std.proofs.Common.{◌≡◌, ◌+◌, ◌≤◌, ◌%◌, ap, ◌∙◌, arith, IsTrue}
+use Rattle.std.proofs.Common.{◌≡◌, ◌+◌, ◌≤◌, ◌%◌, ap, sym, ◌∙◌, arith, IsTrue}
 use Rattle.std.proofs.lemmas.Bool.Decides.{nat_tests}
 use Rattle.bb_flash.specs.declared.geometry.Geometry.{Geometry}
 use Rattle.bb_flash.specs.Geometry.{size_limit}
@@ -7,6 +7,7 @@ use Rattle.bb_flash.proofs.Geometries.{multiple_twice}
 use Rattle.bb_bucket.specs.declared.block.Block.{Block}
 use Rattle.bb_bucket.specs.Blocks.{is_block_of}
 use Rattle.bb_bucket.specs.Kind.{LiesOn}
+use Rattle.bb_bucket.specs.Marks.{IsWholeBlock}
 
 -- a device on which the region is a block of whole pages
 pub record HasBlock (block : Block) (geometry : Geometry) : Type 0 where
@@ -41,4 +42,13 @@ block_lies_on block geometry held = record {
       ap (λ page. block.region.at % page) held.page
       ∙ multiple_twice block.region.at block.region.size block.page held.aligned held.pages;
   whole = ap (λ page. block.region.size % page) held.page ∙ held.pages;
+}
+
+pub whole_block :
+    (block : Block) (geometry : Geometry) → HasBlock block geometry →
+    IsWholeBlock geometry block.region
+whole_block block geometry held = record {
+  some = omega (arith, held.size, held.page_least, held.page_most);
+  size = sym held.size;
+  aligned = held.aligned;
 }

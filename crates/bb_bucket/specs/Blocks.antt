@@ -1,6 +1,6 @@
 -- A block: a region on a device that is erased in blocks, and one of them. It is programmed in
 -- whole pages, each once between two erases.
-use Rattle.std.specs.Prelude.{◌≡◌, ℕ, ◌+◌, ◌-◌, ◌*◌, ◌/◌, ◌≤◌, ◌%◌, ◌==◌, Bool, ◌&&◌, nat_le, List, ◌++◌, length, replicate}
+use Rattle.std.specs.Prelude.{◌≡◌, ℕ, ◌+◌, ◌-◌, ◌*◌, ◌/◌, ◌≤◌, ◌%◌, ◌==◌, Bool, ◌&&◌, nat_le, List, [], ◌++◌, length, replicate}
 use Rattle.std.specs.Int.{div_ceil}
 use Rattle.bb_flash.specs.declared.geometry.Geometry.{Geometry}
 use Rattle.bb_flash.specs.Geometry.{size_limit}
@@ -34,6 +34,7 @@ abbrev pub erased_block : ℕ → ℕ → Image
 erased_block page size = record {
   bytes = replicate size 255;
   health = replicate (size / page) Fine;
+  marked = [];
 }
 
 -- the same of a block

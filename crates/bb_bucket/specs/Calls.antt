@@ -1,15 +1,16 @@
 -- What a bucket's calls make of a device.
-use Rattle.std.specs.Prelude.{◌≡◌, ℕ, ◌+◌, ◌/◌, ◌≤◌, ◌⊎◌, Bool, false, List, [], ◌∷◌, ◌++◌, length, take, drop, ⊤, slice_get, slice_index, slice_set, Contains, Option, Some, None, option_map, Result, IsErr, OnOk, IsTrue, is_err, if◌then◌else◌}
+use Rattle.std.specs.Prelude.{◌≡◌, ℕ, ◌+◌, ◌/◌, ◌<◌, ◌≤◌, ◌⊎◌, ◌&&◌, Bool, true, false, List, [], ◌∷◌, ◌++◌, length, take, drop, ⊤, slice_get, slice_index, slice_set, Contains, Option, Some, None, option_map, Result, IsErr, IsOk, OnOk, IsTrue, is_err, if◌then◌else◌}
 use Rattle.std.specs.Option.{ForSome}
-use Rattle.bb_base.specs.Faults.{counted, one_more}
+use Rattle.bb_base.specs.Faults.{Rose, counted, one_more}
 use Rattle.bb_flash.specs.declared.geometry.Geometry.{Geometry}
 use Rattle.bb_flash.specs.declared.region.Region.{Region}
 use Rattle.bb_flash.specs.Calls.{HasNoChange}
 use Rattle.bb_flash.specs.Image.{Image, Torn}
-use Rattle.bb_flash.specs.Cuts.{EachTorn, IsLater}
+use Rattle.bb_flash.specs.Cuts.{EachImage, EachTorn, IsLater}
 use Rattle.bb_flash.specs.Device.{Change, Device, IsDevice, LeavesStarts, Told, content, erases, moment, reads}
 use Rattle.bb_bucket.specs.declared.bucket.Found.{Found}
 use Rattle.bb_bucket.specs.Kind.{BucketKind, Holding, BeginsWithRecord, part_of}
+use Rattle.bb_bucket.specs.Marks.{IsBarred, IsBroken, IsRegionBad, KeepsMarks, MarksWithin, WearsBlock}
 
 -- the candidate in an image of a device
 abbrev pub candidate_in : BucketKind → ℕ → Image → Option (List ℕ)
@@ -67,12 +68,13 @@ abbrev pub told_but_reads : Device → Option Told
 told_but_reads device = option_map but_reads device.told
 
 -- calls that only read, whatever they answered: nothing changes but the number of reads, and the
--- counts of calls that failed
+-- counts of calls that failed, each of which is a break
 pub record IsQuiet (from to : Device) : Type 0 where
   pub told : told_but_reads to ≡ told_but_reads from
   pub later : IsLater from to
   pub starts : LeavesStarts from to
   pub whole : IsDevice to
+  pub broke : from.faults < to.faults → Rose from.breaks to.breaks
 
 -- the region is afterwards what f makes of it
 pub record Leaves (region : Region) (f : Image → Image) (from to : Device) : Type 0 where
@@ -195,6 +197,16 @@ pub record MakesCalls
       ForSome to.told
       (λ last. moment last ≡ moment first + f (part_of from.geometry.page region first.image))))
 
+-- at most so many flash calls changed the device, or failed to
+pub record MakesAtMost (count : ℕ) (from to : Device) : Type 0 where
+  pub most :
+      ForSome from.told (λ first. ForSome to.told (λ last. moment last ≤ moment first + count))
+
+-- how many flash calls of a void change the device: one that programs or erases, and one after it
+-- that marks where the kind says so
+abbrev pub calls_of_void : BucketKind → ℕ
+calls_of_void kind = if kind.void_marks then 2 else 1
+
 -- The call failed since the look that it began with did: it didn't know the place of a record, and
 -- nothing changed.
 pub record FailsToLook
@@ -218,6 +230,30 @@ pub record IsBucketWrite
   pub read_faults :
       (to.read_faults ≡ from.read_faults) ⊎ FailsToLook knows_place result from to
   pub reads : IsTrue knows_place → reads to ≡ reads from
+  pub wears : WearsBlock kind.region (knows_place && is_err result) from to
+
+-- A void answered Ok, though the mark failed with which its kind ends: one fault came, and a break.
+pub record FailsToMark
+    {T E : Type 0} (kind : BucketKind) (result : Result T E) (from to : Device) : Type 0 where
+  pub marks : kind.void_marks ≡ true
+  pub done : IsOk result
+  pub faults : to.faults ≡ one_more from.faults
+  pub breaks : Rose from.breaks to.breaks
+
+-- A void, as to marks: it marks no block but that of its region, only where its kind says so, and
+-- in no image where a record stands. Where faults rose, breaks rose too, or that block was marked
+-- before; and where it was, nothing changed.
+pub record WearsVoid (kind : BucketKind) (from to : Device) : Type 0 where
+  pub broke : IsBroken (IsRegionBad from.geometry kind.region) from to
+  pub barred : EachImage (IsBarred from.geometry kind.region) from to
+  pub within : EachImage (MarksWithin from.geometry kind.region) from to
+  pub dead :
+      EachImage
+      (λ before image.
+      (image.marked ≡ before.marked) ⊎ (candidate_in kind from.geometry.page image ≡ None))
+      from
+      to
+  pub own : kind.void_marks ≡ false → KeepsMarks from to
 
 -- A void of a bucket: the same.
 pub record IsBucketVoid
@@ -226,6 +262,9 @@ pub record IsBucketVoid
   pub calls : EachCall (IsVoidCall kind from.geometry.page) from to
   pub within : ChangesWithin kind.region from to
   pub erases : OnOk result (ErasesWhere kind.region (λ region. kind.void_erases) from to)
-  pub made : MakesCalls result kind.region (λ region. 1) from to
-  pub faults : to.faults ≡ counted (is_err result) from.faults
+  pub made : kind.void_marks ≡ false → MakesCalls result kind.region (λ region. 1) from to
+  pub most : MakesAtMost (calls_of_void kind) from to
+  pub faults :
+      (to.faults ≡ counted (is_err result) from.faults) ⊎ FailsToMark kind result from to
   pub read_faults : to.read_faults ≡ from.read_faults
+  pub wears : WearsVoid kind from to

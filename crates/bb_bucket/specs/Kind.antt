@@ -1,14 +1,17 @@
 -- What a bucket means: a region of a device that holds one record, and may be torn.
-use Rattle.std.specs.Prelude.{◌≡◌, ℕ, ◌+◌, ◌≤◌, min, ◌%◌, ◌++◌, Bool, List, length, take, drop, Option, Some, None, IsTrue}
+use Rattle.std.specs.Prelude.{◌≡◌, ℕ, ◌+◌, ◌≤◌, min, ◌%◌, ◌++◌, Bool, true, List, [], length, take, drop, Option, Some, None, IsTrue}
 use Rattle.bb_flash.specs.declared.geometry.Geometry.{Geometry}
 use Rattle.bb_flash.specs.declared.region.Region.{Region}
 use Rattle.bb_flash.specs.Image.{Image, IsImageOf, touched_pages}
+use Rattle.bb_bucket.specs.Marks.{IsWholeBlock}
 
--- the part of an image that lies in a region: its bytes, and the pages in which they stand
+-- The part of an image that lies in a region: its bytes, and the pages in which they stand. It has
+-- no marks: what a bucket means rests on bytes and healths alone (`part_marked`).
 abbrev pub part_of : ℕ → Region → Image → Image
 part_of page region image = record {
   bytes = take region.size (drop region.at image.bytes);
   health = touched_pages page region.at region.size image.health;
+  marked = [];
 }
 
 -- what stays the same for a bucket's whole life
@@ -31,6 +34,8 @@ pub record BucketKind : Type 0 where
   -- whether a write erases its region, and whether a void does
   pub write_erases : List ℕ → Image → Bool
   pub void_erases : Bool
+  -- whether a void marks the block of its region, once nothing stands there
+  pub void_marks : Bool
 
 -- the same, where only records of so many bytes are written
 abbrev pub with_most : ℕ → BucketKind → BucketKind
@@ -72,5 +77,9 @@ pub record IsKind (kind : BucketKind) : Type 0 where
   -- it stands on each device that it serves, and keeps what is written there
   pub lies : (geometry : Geometry) → IsTrue (kind.serves geometry) → LiesOn geometry kind.region
   pub written : (geometry : Geometry) → IsTrue (kind.serves geometry) → KeepsRecords kind geometry
+  -- what is marked is one block
+  pub alone :
+      kind.void_marks ≡ true →
+      (geometry : Geometry) → IsTrue (kind.serves geometry) → IsWholeBlock geometry kind.region
   -- nothing stands where a record was voided
   pub voided : (region : Image) → kind.candidate_of (kind.after_void region) ≡ None

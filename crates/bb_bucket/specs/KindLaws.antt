@@ -7,5 +7,6 @@ with_most_laws len kind laws = record {
   fits = omega arith;
   lies = laws.lies;
   written = laws.written;
+  alone = laws.alone;
   voided = laws.voided;
 }

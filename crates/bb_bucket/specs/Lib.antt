@@ -7,6 +7,7 @@ pub mod Blocks
 pub mod Calls
 pub mod Front
 pub mod Kind
+pub mod Marks
 pub mod OneBlock
 pub mod Seen
 pub mod Stride

@@ -1,6 +1,6 @@
 -- A block that holds one record: it begins with a front, the record follows, and 0xFF fills the
 -- last page. A write erases the block and programs it from its first page on.
-use Rattle.std.specs.Prelude.{◌≡◌, ℕ, ◌+◌, ◌-◌, ◌≤◌, true, List, [], ◌∷◌, length, Option, IfSome}
+use Rattle.std.specs.Prelude.{◌≡◌, ℕ, ◌+◌, ◌-◌, ◌≤◌, true, false, List, [], ◌∷◌, length, Option, IfSome}
 use Rattle.bb_bucket.specs.declared.block.Block.{Block}
 use Rattle.bb_bucket.specs.Blocks.{IsBlockBucket, blank_of, filled_len, filled_to, is_block_of}
 use Rattle.bb_bucket.specs.Front.{with_header, first_bytes, front_candidate, front_is_worn, stride_header_len, put_at}
@@ -32,6 +32,7 @@ one_block_kind block = record {
   void_ranges = block.region ∷ [];
   write_erases = λ rec old. true;
   void_erases = true;
+  void_marks = false;
 }
 
 -- a block, with how long a record may be that is written, and what is kept of the record that was

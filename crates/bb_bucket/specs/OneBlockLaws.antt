@@ -1,5 +1,5 @@
 -- A block that holds one record is a kind of bucket.
-use Rattle.std.proofs.Common.{ℕ, ◌-◌, List, length, replicate, refl, arith}
+use Rattle.std.proofs.Common.{◌≡◌, ℕ, ◌-◌, true, false, List, length, replicate, refl, arith}
 use Rattle.bb_bucket.specs.Blocks.{blank_of}
 use Rattle.bb_bucket.specs.BlockLaws.{block_lies_on, block_of}
 use Rattle.bb_bucket.specs.Front.{with_header}
@@ -20,6 +20,7 @@ block_laws block = record {
       written_begins block.page rec filling (block_entry block.page rec) (blank_of block)
       (omega (arith, held.page_least))
       (omega (arith, fits, held.small, held.inside, held.page_least, held.page_most)) refl;
+  alone = λ marks geometry serves. (let clash : false ≡ true = marks in absurd cc);
   voided = λ old. blank_holds_none block.page block.page block.region.size;
 }
 

@@ -55,6 +55,7 @@ stride_kind region = record {
   void_ranges = first_bytes region stride_header_len ∷ [];
   write_erases = λ rec stride. false;
   void_erases = false;
+  void_marks = false;
 }
 
 -- a stride, with how long a record may be that is written, and what it keeps of the record that it

@@ -1,5 +1,5 @@
 -- A stride is a kind of bucket.
-use Rattle.std.proofs.Common.{◌≡◌, ◌+◌, ◌≤◌, ◌%◌, [], refl, sym, ap, ◌∙◌, arith, IsTrue}
+use Rattle.std.proofs.Common.{◌≡◌, ◌+◌, ◌≤◌, ◌%◌, true, false, [], refl, sym, ap, ◌∙◌, arith, IsTrue}
 use Rattle.std.proofs.Math.Nat.{mod-one}
 use Rattle.std.proofs.lemmas.Bool.Decides.{nat_tests}
 use Rattle.std.proofs.lemmas.List.{append-nil}
@@ -45,6 +45,7 @@ region_laws region = record {
       let held = held_by region geometry serves in
       written_begins 1 rec [] (with_header rec) (part_of geometry.page region image) (omega arith)
       (omega (arith, fits, held.small, held.inside)) (sym (append-nil (with_header rec)));
+  alone = λ marks geometry serves. (let clash : false ≡ true = marks in absurd cc);
   voided = λ stride. refl;
 }
 

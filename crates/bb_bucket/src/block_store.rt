@@ -5,6 +5,7 @@ ghost use Rattle.bb_bucket.specs.Blocks.{is_block_of};
 ghost use Rattle.bb_bucket.specs.Calls.{ChangesWithin, EachCall, ErasesWhere, IsVoidCall};
 ghost use Rattle.bb_bucket.specs.Calls.{IsWriteCall, Leaves, MakesCalls, calls_of_write};
 ghost use Rattle.bb_bucket.specs.Front.{stride_header_len};
+ghost use Rattle.bb_bucket.specs.Marks.{WearsBlock};
 ghost use Rattle.bb_bucket.specs.OneBlock.{one_block_kind};
 
 use crate::Block;
@@ -36,6 +37,8 @@ pub(crate) fn write_block<F: Flash>(
         (F.device flash.old) (F.device flash.new)) }
     ensures made { MakesCalls result block.region (calls_of_write (one_block_kind block) rec.now)
         (F.device flash.old) (F.device flash.new) }
+    ensures wears { WearsBlock block.region (is_err result)
+        (F.device flash.old) (F.device flash.new) }
     ensures faults { (F.device flash.new).faults
         ≡ counted (is_err result) (F.device flash.old).faults }
     ensures read_faults { (F.device flash.new).read_faults ≡ (F.device flash.old).read_faults }
@@ -61,6 +64,8 @@ pub(crate) fn void_block<F: Flash>(flash: &mut F, block: Block) -> Result<(), Fa
         (λ region. (one_block_kind block).void_erases)
         (F.device flash.old) (F.device flash.new)) }
     ensures made { MakesCalls result block.region (λ region. 1)
+        (F.device flash.old) (F.device flash.new) }
+    ensures wears { WearsBlock block.region (is_err result)
         (F.device flash.old) (F.device flash.new) }
     ensures faults { (F.device flash.new).faults
         ≡ counted (is_err result) (F.device flash.old).faults }

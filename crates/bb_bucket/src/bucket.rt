@@ -19,7 +19,9 @@ pub struct Found {
 /// A region of a device that holds one record. All calls need a flash of a geometry for which the
 /// bucket was made, and a bucket that agrees with what its region holds; after each call, and each
 /// that failed, it agrees again. A call that fails raises the flash's count of faults by one, and
-/// one that answers Ok leaves it.
+/// one that answers Ok leaves it, but for a void that could not mark its block. Where faults rose,
+/// breaks rose too, or the block of the region was marked before; and where that was, a write and a
+/// void change nothing. Only a void marks, at most that block, and only where nothing stands there.
 pub trait Bucket {
     ghost use Rattle.bb_bucket.specs.Kind.{Holding, IsKind, part_of};
     ghost use Rattle.bb_bucket.specs.Calls.{Agrees, IsBucketVoid, IsBucketWrite, IsFound};
@@ -128,8 +130,9 @@ pub trait Bucket {
         ensures placed { OnOk result (IsTrue (holding self.new).knows_place) };
 
     /// Makes the region hold no record, which outlives a cut once the call answered Ok, by one
-    /// program or erase. A cut while it goes on, and a call that fails, change nothing outside the
-    /// ranges that the bucket's kind names, which lie in the region.
+    /// program or erase, and one mark after it where the bucket's kind says so. A cut while it goes
+    /// on, and a call that fails, change nothing outside the ranges that the bucket's kind names,
+    /// which lie in the region.
     fn void<F: Flash>(&mut self, flash: &mut F) -> Result<(), Failed>
         requires serves { IsTrue ((holding self.old).kind.serves (F.device flash.old).geometry) }
         requires agreed { Agrees (holding self.old) (F.device flash.old) }

@@ -9,6 +9,7 @@ ghost use Rattle.bb_bucket.specs.Blocks.{erased_block, is_block_of};
 ghost use Rattle.bb_bucket.specs.Calls.{ChangesWithin, ErasesWhere, IsQuiet, Leaves, MakesCalls};
 ghost use Rattle.bb_bucket.specs.Front.{IsPart, put_at};
 ghost use Rattle.bb_bucket.specs.Kind.{LiesOn, part_of};
+ghost use Rattle.bb_bucket.specs.Marks.{IsInOneBlock, WearsBlock};
 
 use crate::Block;
 use bb_base::Failed;
@@ -63,6 +64,8 @@ pub fn program_part<F: Flash>(
         (F.device flash.old) (F.device flash.new) }
     ensures within { ChangesWithin region (F.device flash.old) (F.device flash.new) }
     ensures made { MakesCalls result region (λ part. 1) (F.device flash.old) (F.device flash.new) }
+    ensures wears { IsInOneBlock (F.device flash.old).geometry region →
+        WearsBlock region (is_err result) (F.device flash.old) (F.device flash.new) }
     ensures erases { erases (F.device flash.new) ≡ erases (F.device flash.old) }
     ensures faults { (F.device flash.new).faults
         ≡ counted (is_err result) (F.device flash.old).faults }
@@ -82,6 +85,8 @@ pub fn erase_block<F: Flash>(flash: &mut F, block: Block) -> Result<(), Failed>
         (F.device flash.old) (F.device flash.new) }
     ensures within { ChangesWithin block.region (F.device flash.old) (F.device flash.new) }
     ensures made { MakesCalls result block.region (λ part. 1)
+        (F.device flash.old) (F.device flash.new) }
+    ensures wears { WearsBlock block.region (is_err result)
         (F.device flash.old) (F.device flash.new) }
     ensures erases { OnOk result (ErasesWhere block.region (λ part. true)
         (F.device flash.old) (F.device flash.new)) }

@@ -4,6 +4,7 @@ ghost use Rattle.bb_flash.specs.Device.{reads};
 ghost use Rattle.bb_bucket.specs.Calls.{ChangesWithin, EachCall, ErasesWhere, IsVoidCall};
 ghost use Rattle.bb_bucket.specs.Calls.{IsWriteCall, Leaves, MakesCalls, calls_of_write};
 ghost use Rattle.bb_bucket.specs.Front.{stride_header_len};
+ghost use Rattle.bb_bucket.specs.Marks.{WearsBlock};
 ghost use Rattle.bb_bucket.specs.Stride.{lies_on, stride_kind};
 
 use crate::entry::{FRONT_LEN, write_entry};
@@ -33,6 +34,7 @@ pub(crate) fn write_record<F: Flash>(
         (F.device flash.old) (F.device flash.new)) }
     ensures made { MakesCalls result stride (calls_of_write (stride_kind stride) rec.now)
         (F.device flash.old) (F.device flash.new) }
+    ensures wears { WearsBlock stride (is_err result) (F.device flash.old) (F.device flash.new) }
     ensures faults { (F.device flash.new).faults
         ≡ counted (is_err result) (F.device flash.old).faults }
     ensures read_faults { (F.device flash.new).read_faults ≡ (F.device flash.old).read_faults }
@@ -56,6 +58,7 @@ pub(crate) fn void_record<F: Flash>(flash: &mut F, stride: Region) -> Result<(),
         (F.device flash.old) (F.device flash.new)) }
     ensures made { MakesCalls result stride (λ region. 1)
         (F.device flash.old) (F.device flash.new) }
+    ensures wears { WearsBlock stride (is_err result) (F.device flash.old) (F.device flash.new) }
     ensures faults { (F.device flash.new).faults
         ≡ counted (is_err result) (F.device flash.old).faults }
     ensures read_faults { (F.device flash.new).read_faults ≡ (F.device flash.old).read_faults }

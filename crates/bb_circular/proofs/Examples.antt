@@ -87,7 +87,7 @@ erased_for_the_fourth_entry = refl
 
 -- the bytes of four pages, in these healths
 pages : List ℕ → List Health → Image
-pages bytes health = record { bytes = bytes; health = health }
+pages bytes health = record { bytes = bytes; health = health; marked = [] }
 
 entry_with : List ℕ → List ℕ
 entry_with words = replicate 8 0x41 ++ words
@@ -152,6 +152,7 @@ cut : Image
 cut = record {
   bytes = take 64 saved.bytes ++ take 32 (log_entry 32 record_of_36) ++ replicate 160 255;
   health = saved.health;
+  marked = [];
 }
 
 half_an_entry_passes_nothing : kept_of 32 cut ≡ record { next = 96; newest = None }

@@ -90,6 +90,7 @@ circular_kind block = record {
   void_ranges = block.region ∷ [];
   write_erases = λ rec old. not (fits_after block rec old);
   void_erases = true;
+  void_marks = false;
 }
 
 -- ---- what a bucket keeps of it

@@ -288,6 +288,7 @@ circular_laws block = record {
       write_begins block rec (part_of geometry.page block.region image)
       (block_paged block geometry image held whole)
       (omega (arith, fits, held.page_least, held.page_most));
+  alone = λ marks geometry serves. (let clash : false ≡ true = marks in absurd cc);
   voided = λ old. blank_candidate block.page block.page block.region.size;
 }
 

@@ -1,5 +1,5 @@
-ghost use Rattle.std.specs.Prelude.{◌≡◌, ◌≤◌, ◌<◌, ◌+◌, ◌%◌, ◌^◌, ◌⊎◌, IfOk, IfSome, IsTrue};
-ghost use Rattle.std.specs.Prelude.{OnOk, false, is_err, is_some, length};
+ghost use Rattle.std.specs.Prelude.{◌≡◌, ◌≤◌, ◌<◌, ◌+◌, ◌%◌, ◌^◌, ◌⊎◌, ◌&&◌, IfOk, IfSome};
+ghost use Rattle.std.specs.Prelude.{IsTrue, OnOk, false, is_err, is_some, length};
 ghost use Rattle.std.specs.Option.{ForSome};
 ghost use Rattle.bb_base.specs.Faults.{counted};
 ghost use Rattle.bb_flash.specs.Device.{IsDevice, content, reads};
@@ -8,6 +8,7 @@ ghost use Rattle.bb_bucket.specs.Calls.{ChangesWithin, EachCall, ErasesWhere, Fa
 ghost use Rattle.bb_bucket.specs.Calls.{IsVoidCall, IsWriteCall, Leaves, MakesCalls};
 ghost use Rattle.bb_bucket.specs.Calls.{calls_of_write};
 ghost use Rattle.bb_bucket.specs.Kind.{part_of};
+ghost use Rattle.bb_bucket.specs.Marks.{WearsBlock};
 ghost use Rattle.bb_circular.specs.Circular.{IsKeptIn, agrees_with, circular_kind, fits_after};
 ghost use Rattle.bb_circular.specs.Circular.{kept_of, next_place};
 ghost use Rattle.bb_circular.specs.Entries.{closing_len, entry_len};
@@ -52,6 +53,8 @@ pub(crate) fn write_log<F: Flash>(
         (F.device flash.old) (F.device flash.new)) }
     ensures made { MakesCalls result block.region (calls_of_write (circular_kind block) rec.now)
         (F.device flash.old) (F.device flash.new) }
+    ensures wears { WearsBlock block.region (is_some kept && is_err result)
+        (F.device flash.old) (F.device flash.new) }
     ensures faults { (F.device flash.new).faults
         ≡ counted (is_err result) (F.device flash.old).faults }
     ensures read_faults { ((F.device flash.new).read_faults ≡ (F.device flash.old).read_faults)
@@ -93,6 +96,8 @@ fn put_entry<F: Flash>(
         ((circular_kind block).write_erases rec.now)
         (F.device flash.old) (F.device flash.new)) }
     ensures made { MakesCalls result block.region (calls_of_write (circular_kind block) rec.now)
+        (F.device flash.old) (F.device flash.new) }
+    ensures wears { WearsBlock block.region (is_err result)
         (F.device flash.old) (F.device flash.new) }
     ensures faults { (F.device flash.new).faults
         ≡ counted (is_err result) (F.device flash.old).faults }
@@ -151,6 +156,8 @@ fn append<F: Flash>(
         (F.device flash.old) (F.device flash.new)) }
     ensures made { MakesCalls result block.region (calls_of_write (circular_kind block) rec.now)
         (F.device flash.old) (F.device flash.new) }
+    ensures wears { WearsBlock block.region (is_err result)
+        (F.device flash.old) (F.device flash.new) }
     ensures faults { (F.device flash.new).faults
         ≡ counted (is_err result) (F.device flash.old).faults }
     ensures read_faults { (F.device flash.new).read_faults ≡ (F.device flash.old).read_faults }
@@ -188,6 +195,8 @@ fn start_anew<F: Flash>(
         (F.device flash.old) (F.device flash.new)) }
     ensures made { MakesCalls result block.region (calls_of_write (circular_kind block) rec.now)
         (F.device flash.old) (F.device flash.new) }
+    ensures wears { WearsBlock block.region (is_err result)
+        (F.device flash.old) (F.device flash.new) }
     ensures faults { (F.device flash.new).faults
         ≡ counted (is_err result) (F.device flash.old).faults }
     ensures read_faults { (F.device flash.new).read_faults ≡ (F.device flash.old).read_faults }
@@ -214,6 +223,8 @@ pub(crate) fn void_log<F: Flash>(flash: &mut F, block: Block) -> Result<Kept, Fa
         (λ region. (circular_kind block).void_erases)
         (F.device flash.old) (F.device flash.new)) }
     ensures made { MakesCalls result block.region (λ region. 1)
+        (F.device flash.old) (F.device flash.new) }
+    ensures wears { WearsBlock block.region (is_err result)
         (F.device flash.old) (F.device flash.new) }
     ensures faults { (F.device flash.new).faults
         ≡ counted (is_err result) (F.device flash.old).faults }

@@ -2,17 +2,16 @@
 use Rattle.std.proofs.Common.{◌≡◌, ◌∙◌, ℕ, zero, suc, ◌+◌, ◌*◌, ◌≤◌, Bool, true, false, List, [], ◌∷◌, length, take, Result, count_by, option_map, ap, arith}
 use Rattle.std.specs.Option.{is_some}
 use Rattle.bb_flash.specs.declared.geometry.Geometry.{Geometry}
-use Rattle.bb_flash.specs.declared.region.Region.{Region}
 use Rattle.bb_flash.specs.Cuts.{IsLater}
 use Rattle.bb_flash.specs.Device.{Change, Device, Told, moment}
 use Rattle.bb_flash.specs.Image.{Image}
-use Rattle.bb_bucket.specs.Calls.{MakesCalls, calls_of_write, told_but_reads}
+use Rattle.bb_bucket.specs.Calls.{MakesAtMost, MakesCalls, calls_of_void, calls_of_write, told_but_reads}
 use Rattle.bb_bucket.specs.Kind.{BucketKind}
 use Rattle.bb_copies.specs.Erasing.{IsBoundedInSum, calls_of_writes, erases_first, unmarked_kinds}
 use Rattle.bb_copies.specs.Refreshing.{IsUntouched}
 use Rattle.bb_copies.proofs.Calls.{reads_untouched}
 use Rattle.bb_copies.proofs.Ends.{some_of}
-use Rattle.bb_copies.proofs.Erased.{calls_alone, calls_still, calls_within, count_all, count_cons, told_still}
+use Rattle.bb_copies.proofs.Erased.{calls_alone, calls_still, calls_within, count_all, count_cons, told_still, voids_alone, voids_fewer, voids_within}
 use Rattle.bb_copies.proofs.Runs.{same_told}
 
 -- ---- one copy
@@ -27,14 +26,15 @@ bounded_written kind rec result from to made few = record {
 }
 
 -- with a void after the write
-pub bounded_voided : {T E : Type 0} (kind : BucketKind) (region : Region) (rec : List ℕ) (one two : Result T E) (from mid to : Device) → IsLater from mid → MakesCalls one kind.region (calls_of_write kind rec) from mid → MakesCalls two region (λ part. 1) mid to → to.faults ≤ from.faults + 3 → IsBoundedInSum (kind ∷ []) rec from to
-bounded_voided kind region rec one two from mid to later made voided few = record {
+pub bounded_voided : {T E : Type 0} (kind : BucketKind) (rec : List ℕ) (result : Result T E) (from mid to : Device) → IsLater from mid → MakesCalls result kind.region (calls_of_write kind rec) from mid → MakesAtMost (calls_of_void kind) mid to → to.faults ≤ from.faults + 3 → IsBoundedInSum (kind ∷ []) rec from to
+bounded_voided kind rec result from mid to later made voided few = record {
   calls = λ first e last f.
       let there = some_of mid.told (later.told ∙ ap is_some e) in
       let most = made.most first e there.0 there.1 in
       let more = voided.most there.0 there.1 last f in
       let alone = calls_alone from.geometry.page first.image rec kind in
-      omega (arith, most, more, alone);
+      let void = voids_alone kind in
+      omega (arith, most, more, alone, void);
   faults = omega (arith, few);
 }
 
@@ -56,7 +56,8 @@ bounded_wider kinds sum rec from to fewer by =
       calls = λ first e last f.
           let erased = fewer (erases_first from.geometry.page first.image rec) in
           let calls = by.calls first e last f in
-          omega (arith, erased, calls, all, some, size);
+          let voids = voids_fewer kinds sum fewer in
+          omega (arith, erased, calls, all, some, size, voids);
       faults = omega (arith, few, all, some, size);
     }
 
@@ -76,10 +77,10 @@ bounded_joined kinds sum kind rec one two three h untouched first second fewer =
           let still = calls_still kind rec one two before.image mid.image h untouched (ap (option_map map) e) (ap (option_map map) there.1) in
           let within = calls_within one.geometry.page before.image rec kinds sum kind fewer in
           let calls = within.0 in
-          let sized = within.1 in
+          let voids = voids_within kinds sum kind fewer in
           let began = first.calls before e mid there.1 in
           let ended = second.calls mid there.1 last f in
-          omega (arith, still, calls, sized, began, ended);
+          omega (arith, still, calls, voids, began, ended);
       faults = omega (arith, early, late, size, all, some, here);
     }
 

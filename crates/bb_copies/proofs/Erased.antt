@@ -10,9 +10,9 @@ use Rattle.bb_flash.specs.declared.region.Region.{Region}
 use Rattle.bb_flash.specs.Cuts.{IsLater}
 use Rattle.bb_flash.specs.Device.{Change, Device, ReadKeeps, Told, changes, content, erases, moment}
 use Rattle.bb_flash.specs.Image.{Image}
-use Rattle.bb_bucket.specs.Calls.{but_reads, calls_of_write, erases_after, told_but_reads}
+use Rattle.bb_bucket.specs.Calls.{but_reads, calls_of_void, calls_of_write, erases_after, told_but_reads}
 use Rattle.bb_bucket.specs.Kind.{BucketKind, part_of}
-use Rattle.bb_copies.specs.Erasing.{ErasesBy, calls_of_writes, erases_block, erases_first, unmarked_kinds}
+use Rattle.bb_copies.specs.Erasing.{ErasesBy, calls_of_voids, calls_of_writes, erases_block, erases_first, unmarked_kinds}
 use Rattle.bb_copies.specs.Refreshing.{IsUntouched, is_marked}
 use Rattle.bb_copies.specs.Settling.{IsRepairWritten}
 use Rattle.bb_copies.proofs.Calls.{reads_untouched}
@@ -50,6 +50,27 @@ two_or_one false = refl
 -- a write of one copy, said of a list of one
 pub calls_alone : (page : ℕ) (image : Image) (rec : List ℕ) (kind : BucketKind) → calls_of_write kind rec (part_of page kind.region image) ≡ calls_of_writes page image rec (kind ∷ [])
 calls_alone page image rec kind = two_or_one (erases_first page image rec kind) ∙ sym (calls_one page image rec kind)
+
+-- so is a void
+pub voids_alone : (kind : BucketKind) → calls_of_void kind ≡ calls_of_voids (kind ∷ [])
+voids_alone kind = two_or_one kind.void_marks ∙ sym (ap (λ n. 1 + n) (count_one (λ k. k.void_marks) kind))
+
+pub voids_fewer : (kinds sum : List BucketKind) → ((p : BucketKind → Bool) → count_by p kinds ≤ count_by p sum) → calls_of_voids kinds ≤ calls_of_voids sum
+voids_fewer kinds sum fewer =
+    let size : count_by (λ k. true) kinds ≤ count_by (λ k. true) sum = fewer (λ k. true) in
+    let marks = fewer (λ k. k.void_marks) in
+    let all = count_all sum in
+    let some = count_all kinds in
+    omega (arith, size, marks, all, some)
+
+pub voids_within : (kinds sum : List BucketKind) (kind : BucketKind) → ((p : BucketKind → Bool) → count_by p kinds + count_by p (kind ∷ []) ≤ count_by p sum) → calls_of_voids kinds + calls_of_voids (kind ∷ []) ≤ calls_of_voids sum
+voids_within kinds sum kind fewer =
+    let size : (count_by (λ k. true) kinds + count_by (λ k. true) (kind ∷ [])) ≤ count_by (λ k. true) sum = fewer (λ k. true) in
+    let marks = fewer (λ k. k.void_marks) in
+    let all = count_all sum in
+    let some = count_all kinds in
+    let here : count_by (λ k. true) (kind ∷ []) ≡ 1 = count_all (kind ∷ []) in
+    omega (arith, size, marks, all, some, here)
 
 -- a copy that isn't touched is erased first then as it was before
 pub calls_still : (kind : BucketKind) (rec : List ℕ) (one two : Device) (before after : Image) → IsLater one two → IsUntouched kind one two → content one ≡ Some before → content two ≡ Some after → calls_of_writes two.geometry.page after rec (kind ∷ []) ≡ calls_of_writes one.geometry.page before rec (kind ∷ [])

@@ -41,11 +41,12 @@ kind_at at = record {
   void_ranges = [];
   write_erases = λ rec region. false;
   void_erases = false;
+  void_marks = false;
 }
 
 -- copies new, torn, none
 content : Image
-content = record { bytes = 7 ∷ 7 ∷ 7 ∷ 8 ∷ 255 ∷ 255 ∷ []; health = Fine ∷ Fine ∷ Fine ∷ Fine ∷ Fine ∷ Fine ∷ [] }
+content = record { bytes = 7 ∷ 7 ∷ 7 ∷ 8 ∷ 255 ∷ 255 ∷ []; health = Fine ∷ Fine ∷ Fine ∷ Fine ∷ Fine ∷ Fine ∷ []; marked = [] }
 
 copies : List BucketKind
 copies = kind_at 0 ∷ kind_at 2 ∷ kind_at 4 ∷ []
@@ -60,7 +61,7 @@ there_is_no_fourth = refl
 
 -- both bytes of the first copy
 twice : ℕ → Image
-twice a = record { bytes = a ∷ a ∷ []; health = Fine ∷ Fine ∷ [] }
+twice a = record { bytes = a ∷ a ∷ []; health = Fine ∷ Fine ∷ []; marked = [] }
 
 -- a write of 9 over 7
 write : Change

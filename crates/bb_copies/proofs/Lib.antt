@@ -24,4 +24,6 @@ pub mod Settled
 pub mod Touched
 pub mod Chronicle
 pub mod Trails
+pub mod Voiding
+pub mod Wearing
 pub mod WorkedContents

@@ -38,14 +38,15 @@ use Rattle.bb_copies.proofs.Runs.{read_images, read_untouched, refreshes_joined,
 still : (passing : Image → List (Option (List ℕ))) (before image : Image) → image ≡ before → StandsStill (passing before) (passing image)
 still passing before image same = λ first h a marks stands. subst (λ (i : Image). Stands first (passing i) h a) (sym same) (record { marks = marks; stands = stands })
 
-pub unchanged_runs : (form : Form) (kinds : List BucketKind) (from to : Device) → told_but_reads to ≡ told_but_reads from → ReadKeeps from to → IsLater from to → IsDevice to → LoadRuns form kinds from to
-unchanged_runs form kinds from to told keeps later whole =
+pub unchanged_runs : (form : Form) (kinds : List BucketKind) (from to : Device) → told_but_reads to ≡ told_but_reads from → ReadKeeps from to → IsLater from to → IsDevice to → (from.faults < to.faults → Rose from.breaks to.breaks) → LoadRuns form kinds from to
+unchanged_runs form kinds from to told keeps later whole broke =
     let passing : Image → List (Option (List ℕ)) = passings form from.geometry.page kinds in
     let same : EachImage (λ before image. image ≡ before) from to = read_images from to told in
-    let run = unchanged_refreshes form kinds [] from to same later (record { starts = keeps.starts; start_faults = keeps.start_faults }) whole in
+    let run = unchanged_refreshes form kinds [] from to same later (record { starts = keeps.starts; start_faults = keeps.start_faults }) whole broke in
     record {
       images = counted_of_images (IsLucky passing) (λ before image. StandsStill (passing before) (passing image)) from to (images_weaker (λ before image. image ≡ before) (λ before image. StandsStill (passing before) (passing image)) from to (still passing) same);
       outside = run.outside;
+      wears = run.wears;
       later = later;
       starts = run.starts;
       whole = whole;
@@ -115,14 +116,15 @@ load_images form kinds area from to run never entry =
           (never.each first e last f image cut, (entry first.image (ap (option_map map) e)).first);
     })
 
-pub fresh_runs : (form : Form) (kinds : List BucketKind) (area : List ℕ) (from mid to : Device) → told_but_reads mid ≡ told_but_reads from → ReadKeeps from mid → IsLater from mid → IsDevice mid → ForSome (content from) (λ image. IsFirstArea area (passings form from.geometry.page kinds image)) → Refreshes form kinds area mid to → NeverEmpty form kinds mid to → LoadRuns form kinds from to
-fresh_runs form kinds area from mid to told keeps later whole entry run never =
+pub fresh_runs : (form : Form) (kinds : List BucketKind) (area : List ℕ) (from mid to : Device) → told_but_reads mid ≡ told_but_reads from → ReadKeeps from mid → IsLater from mid → IsDevice mid → (from.faults < mid.faults → Rose from.breaks mid.breaks) → ForSome (content from) (λ image. IsFirstArea area (passings form from.geometry.page kinds image)) → Refreshes form kinds area mid to → NeverEmpty form kinds mid to → LoadRuns form kinds from to
+fresh_runs form kinds area from mid to told keeps later whole broke entry run never =
     let same : EachImage (λ before image. image ≡ before) from mid = read_images from mid told in
-    let read = unchanged_refreshes form kinds area from mid same later (record { starts = keeps.starts; start_faults = keeps.start_faults }) whole in
+    let read = unchanged_refreshes form kinds area from mid same later (record { starts = keeps.starts; start_faults = keeps.start_faults }) whole broke in
     let all = refreshes_joined form kinds area from mid to read run in
     record {
       images = load_images form kinds area from to all (never_joined form kinds from mid to later run.later (spares_read form kinds area from mid same entry) never) entry;
       outside = all.outside;
+      wears = all.wears;
       later = all.later;
       starts = all.starts;
       whole = all.whole;

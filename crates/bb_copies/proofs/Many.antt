@@ -20,6 +20,7 @@ use Rattle.bb_copies.specs.Passing.{passes_at, passing_of, passings}
 use Rattle.bb_copies.specs.Refreshing.{IsUntouched, LeavesOthers, Refreshes}
 use Rattle.bb_copies.specs.Settling.{SettlesCopy}
 use Rattle.bb_copies.specs.StandsFor.{IsKeptOrTaken, KeepsOrTakes}
+use Rattle.bb_copies.specs.Wearing.{WearsCopies}
 use Rattle.bb_copies.proofs.Calls.{each_weaker}
 use Rattle.bb_copies.proofs.Ends.{content_before}
 
@@ -87,7 +88,7 @@ set_kinds holding (bucket ∷ buckets) (suc copy) old new e same = ap (λ kinds.
 
 pub same_part : (page : ℕ) (region : Region) (before image : Image) → IsSameRegion page region.at region.size before image → part_of page region image ≡ part_of page region before
 same_part page region before image same =
-    let with : List ℕ → List Health → Image = λ bytes health. record { bytes = bytes; health = health } in
+    let with : List ℕ → List Health → Image = λ bytes health. record { bytes = bytes; health = health; marked = [] } in
     let old : Image = part_of page region before in
     let new : Image = part_of page region image in
     ap (λ bytes. with bytes new.health) same.bytes ∙ ap (with old.bytes) same.health
@@ -105,7 +106,7 @@ torn_beside kind region from before image laws serves whole apart torn =
     let lies = laws.lies from.geometry serves in
     Torn-region from.geometry.page kind.region.at kind.region.size region.at region.size before image whole.geometry.page_some lies.aligned lies.whole torn (behind_or_before kind.region region apart)
 
-images_apart : (kind : BucketKind) (region : Region) (from to : Device) → IsKind kind → IsTrue (kind.serves from.geometry) → IsDevice from → IsApart kind.region region → EachTorn kind.region.at kind.region.size from to → EachImage (IsSameRegion from.geometry.page region.at region.size) from to
+pub images_apart : (kind : BucketKind) (region : Region) (from to : Device) → IsKind kind → IsTrue (kind.serves from.geometry) → IsDevice from → IsApart kind.region region → EachTorn kind.region.at kind.region.size from to → EachImage (IsSameRegion from.geometry.page region.at region.size) from to
 images_apart kind region from to laws serves whole apart torn =
     images_weaker (Torn from.geometry.page kind.region.at kind.region.size) (IsSameRegion from.geometry.page region.at region.size) from to
     (λ before image t. torn_beside kind region from before image laws serves whole apart t) torn.images
@@ -155,9 +156,9 @@ settled_others kinds copy kind from to laws apart serves whole e torn calls = λ
       calls = each_weaker (λ before change. IsWithin kind.region change) (λ before change. IsApart beside.region (range_of change)) from to (λ x change within. call_apart kind.region beside.region change between within) calls;
     }
 
-pub settled_refreshes : (form : Form) (kinds : List BucketKind) (area : List ℕ) (copy : ℕ) (kind : BucketKind) (from to : Device) → EachCopy kinds (λ place other. IsKind other) → AreApart kinds → AllServe kinds from.geometry → IsDevice from → slice_get kinds copy ≡ Some kind → SettlesCopy form kind area from to → Refreshes form kinds area from to
+pub settled_refreshes : (form : Form) (kinds : List BucketKind) (area : List ℕ) (copy : ℕ) (kind : BucketKind) (from to : Device) → EachCopy kinds (λ place other. IsKind other) → AreApart kinds → AllServe kinds from.geometry → IsDevice from → slice_get kinds copy ≡ Some kind → SettlesCopy form kind area from to → WearsCopies form kinds from to → Refreshes form kinds area from to
 unfolding OthersPass
-settled_refreshes form kinds area copy kind from to laws apart serves whole e settles =
+settled_refreshes form kinds area copy kind from to laws apart serves whole e settles wears =
     let page : ℕ = from.geometry.page in
     let lucky : Change → Image → Type 0 = IsLucky (passings form page kinds) in
     let kept : Image → Image → Type 0 = λ before image. IsKeptOrTaken area (passing_of form page kind before) (passing_of form page kind image) in
@@ -174,6 +175,7 @@ settled_refreshes form kinds area copy kind from to laws apart serves whole e se
           settles.counted)
           others;
       outside = λ region out. images_apart kind region from to (laws copy kind e) (serves copy kind e) whole (out copy kind e) settles.torn;
+      wears = wears;
       later = settles.later;
       starts = settles.starts;
       whole = settles.whole;

@@ -1,6 +1,7 @@
 -- Runs of calls over all copies: one after another, and none at all.
-use Rattle.std.proofs.Common.{◌≡◌, ◌∙◌, ℕ, List, Some, ap, sym, subst, arith, refl, inl}
+use Rattle.std.proofs.Common.{◌≡◌, ◌∙◌, ℕ, ◌<◌, List, Some, ap, sym, subst, arith, refl, inl}
 use Rattle.std.proofs.Math.Seq.{take-length}
+use Rattle.bb_base.specs.Faults.{Rose}
 use Rattle.bb_base.specs.Form.{Form}
 use Rattle.bb_flash.specs.Calls.{HasNoChange as IsUnchanged}
 use Rattle.bb_flash.specs.Counted.{EachCounted}
@@ -21,6 +22,7 @@ use Rattle.bb_copies.specs.StandsFor.{IsKeptOrTaken, KeepsOrTakes}
 use Rattle.bb_copies.proofs.Calls.{each_joined, reads_untouched}
 use Rattle.bb_copies.proofs.Many.{zip_joined, zip_kinds}
 use Rattle.bb_copies.proofs.OneCopy.{kept_joined}
+use Rattle.bb_copies.proofs.Wearing.{copies_joined, copies_unchanged}
 
 -- ---- a run that changes nothing
 
@@ -30,14 +32,15 @@ same_region page at size before image e = subst (λ (i : Image). IsSameRegion pa
 pub kept_same : (form : Form) (page : ℕ) (kinds : List BucketKind) (area : List ℕ) (before image : Image) → image ≡ before → KeepsOrTakes area (passings form page kinds before) (passings form page kinds image)
 kept_same form page kinds area before image e = zip_kinds (IsKeptOrTaken area) (λ k. passing_of form page k before) (λ k. passing_of form page k image) kinds (λ copy kind f. inl (inl (ap (passing_of form page kind) e)))
 
-pub unchanged_refreshes : (form : Form) (kinds : List BucketKind) (area : List ℕ) (from to : Device) → EachImage (λ before image. image ≡ before) from to → IsLater from to → LeavesStarts from to → IsDevice to → Refreshes form kinds area from to
-unchanged_refreshes form kinds area from to same later starts whole = record {
+pub unchanged_refreshes : (form : Form) (kinds : List BucketKind) (area : List ℕ) (from to : Device) → EachImage (λ before image. image ≡ before) from to → IsLater from to → LeavesStarts from to → IsDevice to → (from.faults < to.faults → Rose from.breaks to.breaks) → Refreshes form kinds area from to
+unchanged_refreshes form kinds area from to same later starts whole broke = record {
   counted =
       counted_of_images (IsLucky (passings form from.geometry.page kinds)) _ from to
       (images_weaker (λ before image. image ≡ before)
       (λ before image. KeepsOrTakes area (passings form from.geometry.page kinds before) (passings form from.geometry.page kinds image)) from to
       (kept_same form from.geometry.page kinds area) same);
   outside = λ region out. images_weaker (λ before image. image ≡ before) (IsSameRegion from.geometry.page region.at region.size) from to (same_region from.geometry.page region.at region.size) same;
+  wears = copies_unchanged form kinds from to same broke;
   later = later;
   starts = starts;
   whole = whole;
@@ -58,6 +61,7 @@ later_refl device = record {
   told = refl;
   faults = omega arith;
   read_faults = omega arith;
+  breaks = omega arith;
   continued = λ first e last f. subst (λ (t : Told). IsContinued first t) (same_told device first last e f) (record { changes = take-length first.changes; held = image_at-now first });
 }
 
@@ -65,7 +69,7 @@ pub same_images : (device : Device) → EachImage (λ before image. image ≡ be
 same_images device = images_untouched device device (λ first e last f. subst (λ (t : Told). IsUnchanged first t) (same_told device first last e f) (record { image = refl; changes = refl }))
 
 pub none_refreshes : (form : Form) (kinds : List BucketKind) (area : List ℕ) (device : Device) → IsDevice device → Refreshes form kinds area device device
-none_refreshes form kinds area device whole = unchanged_refreshes form kinds area device device (same_images device) (later_refl device) (record { starts = refl; start_faults = refl }) whole
+none_refreshes form kinds area device whole = unchanged_refreshes form kinds area device device (same_images device) (later_refl device) (record { starts = refl; start_faults = refl }) whole (λ more. absurd (omega (arith, more)))
 
 pub none_untouched : (kind : BucketKind) (device : Device) → IsUntouched kind device device
 none_untouched kind device = unchanged_untouched kind device device (same_images device) refl
@@ -101,6 +105,7 @@ refreshes_joined form kinds area one two three h k =
       outside = λ region out.
           images_same_joined page region.at region.size one two three h.later k.later (h.outside region out)
           (subst (λ (p : ℕ). EachImage (IsSameRegion p region.at region.size) two three) same (k.outside region out));
+      wears = copies_joined form kinds one two three h.later k.later h.wears k.wears;
       later = later_joined one two three h.later k.later;
       starts = record { starts = k.starts.starts ∙ h.starts.starts; start_faults = k.starts.start_faults ∙ h.starts.start_faults };
       whole = k.whole;

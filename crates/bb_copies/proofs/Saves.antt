@@ -55,6 +55,7 @@ save_runs form kinds used area from to run spares bounded = record {
   bounded = bounded;
   images = save_images form kinds used area from to run spares;
   outside = run.outside;
+  wears = run.wears;
   later = run.later;
   starts = run.starts;
   whole = run.whole;

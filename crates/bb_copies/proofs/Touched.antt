@@ -17,7 +17,7 @@ use Rattle.bb_copies.specs.Erasing.{EachBounded, IsBounded, IsBoundedCopy, IsBou
 use Rattle.bb_copies.specs.Refreshing.{IsBoundedAt, IsUntouched, LeavesOthers}
 use Rattle.bb_copies.proofs.Bounded.{bounded_behind, bounded_wider, none_bounded, unmarked_fewer}
 use Rattle.bb_copies.proofs.Ends.{some_of}
-use Rattle.bb_copies.proofs.Erased.{calls_alone, calls_still}
+use Rattle.bb_copies.proofs.Erased.{calls_alone, calls_still, voids_alone}
 use Rattle.bb_copies.proofs.Many.{same_or_not}
 use Rattle.bb_copies.proofs.Runs.{none_untouched, read_untouched}
 
@@ -91,7 +91,8 @@ copy_alone kind rec from to sum = record {
       let size : length since ≡ moment last - moment first = length-drop (moment first) last.changes in
       let calls = sum.calls first e last f in
       let one = calls_alone from.geometry.page first.image rec kind in
-      omega (arith, some, size, calls, one);
+      let void = voids_alone kind in
+      omega (arith, some, size, calls, one, void);
 }
 
 -- it was left alone, and then settled

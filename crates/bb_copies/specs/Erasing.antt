@@ -7,7 +7,7 @@ use Rattle.bb_flash.specs.declared.geometry.Geometry.{Geometry}
 use Rattle.bb_flash.specs.declared.region.Region.{Region}
 use Rattle.bb_flash.specs.Device.{Change, Device, Told, content, erases, moment}
 use Rattle.bb_flash.specs.Image.{Image}
-use Rattle.bb_bucket.specs.Calls.{calls_of_write}
+use Rattle.bb_bucket.specs.Calls.{calls_of_void, calls_of_write}
 use Rattle.bb_bucket.specs.Kind.{BucketKind, part_of}
 use Rattle.bb_copies.specs.Buckets.{EachCopy}
 
@@ -32,6 +32,11 @@ erases_first page image rec kind = kind.write_erases rec (part_of page kind.regi
 -- programs, and one before it erases where the copy's kind says so
 abbrev pub calls_of_writes : ℕ → Image → List ℕ → List BucketKind → ℕ
 calls_of_writes page image rec kinds = length kinds + count_by (erases_first page image rec) kinds
+
+-- how many the voids of these copies make: one programs or erases, and one after it marks where the
+-- copy's kind says so
+abbrev pub calls_of_voids : List BucketKind → ℕ
+calls_of_voids kinds = length kinds + count_by (λ kind. kind.void_marks) kinds
 
 -- The record was written once to each of these copies, and no other call changed the device: so
 -- many changes came, and the number of each block is higher by the writes that erase it.
@@ -64,7 +69,8 @@ pub record IsBoundedInSum (kinds : List BucketKind) (rec : List ℕ) (from to : 
       ForSome to.told
       (λ last.
       moment last
-      ≤ moment first + (calls_of_writes from.geometry.page first.image rec kinds + length kinds)))
+      ≤ moment first
+      + (calls_of_writes from.geometry.page first.image rec kinds + calls_of_voids kinds)))
   pub faults : to.faults ≤ from.faults + 3 * length kinds
 
 -- ---- each copy for itself
@@ -79,7 +85,7 @@ abbrev pub changes_in : Region → ℕ → Told → ℕ
 changes_in region since told = count_by (touches region) (drop since told.changes)
 
 -- A copy was written with the record at most once and voided at most once: of the changes that
--- came, those that touch its region are no more than the calls of that write, and one.
+-- came, those that touch its region are no more than the calls of that write and of that void.
 pub record IsBoundedCopy (kind : BucketKind) (rec : List ℕ) (from to : Device) : Type 0 where
   pub most :
       ForSome from.told
@@ -87,7 +93,8 @@ pub record IsBoundedCopy (kind : BucketKind) (rec : List ℕ) (from to : Device)
       ForSome to.told
       (λ last.
       changes_in kind.region (moment first) last
-      ≤ calls_of_write kind rec (part_of from.geometry.page kind.region first.image) + 1))
+      ≤ calls_of_write kind rec (part_of from.geometry.page kind.region first.image)
+      + calls_of_void kind))
 
 -- so was each copy
 abbrev pub EachBounded : List BucketKind → List ℕ → Device → Device → Type 0

@@ -19,6 +19,7 @@ pub mod Saving
 pub mod StandsFor
 pub mod Store
 pub mod Trail
+pub mod Wearing
 -- Inside: what the steps of a load and of a save promise.
 pub mod Looking
 pub mod Refreshing

@@ -26,6 +26,7 @@ use Rattle.bb_copies.specs.Refreshing.{IsStuckAt, KeepsMarked, is_marked}
 use Rattle.bb_copies.specs.Settling.{NothingFails, RoseBy}
 use Rattle.bb_copies.specs.StandsFor.{EachPassesOrNothing, SomePasses, Stands, StandsFor}
 use Rattle.bb_copies.specs.StandsFor.{first_passed}
+use Rattle.bb_copies.specs.Wearing.{WearsCopies}
 
 -- whatever list of areas a content stood for, and whichever of them was acknowledged, it still does
 abbrev pub StandsStill : List (Option (List ℕ)) → List (Option (List ℕ)) → Type 0
@@ -166,6 +167,7 @@ LoadsErasing form kinds area from to NoCopy = erases to ≡ erases from
 pub record LoadRuns (form : Form) (kinds : List BucketKind) (from to : Device) : Type 0 where
   pub images : LoadImages form kinds from to
   pub outside : KeepsOutside kinds from to
+  pub wears : WearsCopies form kinds from to
   pub later : IsLater from to
   pub starts : LeavesStarts from to
   pub whole : IsDevice to

@@ -18,9 +18,10 @@ use Rattle.bb_copies.specs.Luck.{IsLucky}
 use Rattle.bb_copies.specs.Passing.{passing_of, passings}
 use Rattle.bb_copies.specs.Settling.{IsStale, IsRepairWritten, IsUnread, RoseBy}
 use Rattle.bb_copies.specs.StandsFor.{KeepsOrTakes, SomePasses}
+use Rattle.bb_copies.specs.Wearing.{WearsCopies}
 
 -- In every image what lies outside the copies is as before. In each that counts each copy passes
--- what it passed before, nothing, or the area.
+-- what it passed before, nothing, or the area. What is marked, and why, is in `wears`.
 pub record Refreshes (form : Form) (kinds : List BucketKind) (area : List ℕ)
     (from to : Device) : Type 0 where
   pub counted :
@@ -34,6 +35,7 @@ pub record Refreshes (form : Form) (kinds : List BucketKind) (area : List ℕ)
   pub outside :
       (region : Region) → IsOutside kinds region →
       EachImage (IsSameRegion from.geometry.page region.at region.size) from to
+  pub wears : WearsCopies form kinds from to
   pub later : IsLater from to
   pub starts : LeavesStarts from to
   pub whole : IsDevice to

@@ -18,6 +18,7 @@ use Rattle.bb_copies.specs.Passing.{passes_at, passing_of, passings}
 use Rattle.bb_copies.specs.Refreshing.{AllHeld, IsStuckAt, IsUntouched}
 use Rattle.bb_copies.specs.Settling.{NothingFails, RoseBy}
 use Rattle.bb_copies.specs.StandsFor.{SomeIsSpared, SomePasses, Stands, StandsFor}
+use Rattle.bb_copies.specs.Wearing.{WearsCopies}
 
 -- the copy that is used passes, or none passes where none is used
 abbrev pub KeepsUsed : Option ℕ → List (Option (List ℕ)) → Type 0
@@ -97,6 +98,7 @@ pub record SaveRuns (form : Form) (kinds : List BucketKind) (used : Option ℕ) 
   pub images : SaveImages form kinds used area from to
   pub bounded : IsBounded kinds (form.text area) from to
   pub outside : KeepsOutside kinds from to
+  pub wears : WearsCopies form kinds from to
   pub later : IsLater from to
   pub starts : LeavesStarts from to
   pub whole : IsDevice to

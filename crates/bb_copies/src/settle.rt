@@ -1,11 +1,12 @@
 ghost use Rattle.std.specs.Prelude.{◌≡◌, ◌≢◌, ◌≤◌, ◌∷◌, [], IsTrue, length};
 ghost use Rattle.bb_flash.specs.Device.{IsDevice};
-ghost use Rattle.bb_bucket.specs.Calls.{Agrees, told_but_reads};
+ghost use Rattle.bb_bucket.specs.Calls.{Agrees, IsQuiet};
 ghost use Rattle.bb_copies.specs.Buckets.{HasMemory};
 ghost use Rattle.bb_copies.specs.Erasing.{IsBoundedInSum};
 ghost use Rattle.bb_copies.specs.Placing.{ReadsNothing};
 ghost use Rattle.bb_copies.specs.Settling.{CountsAs, EndsAs, IsCompared, NothingFails};
 ghost use Rattle.bb_copies.specs.Settling.{IsRepairWritten, ReadsAs, ReadsOnce, SettlesCopy};
+ghost use Rattle.bb_copies.specs.Wearing.{WearsCopy};
 ghost use Rattle.bb_copies.specs.declared.settle.Settled.TheVariants.{Stuck};
 
 use crate::load::front;
@@ -51,6 +52,8 @@ pub(crate) fn settle<B: Bucket, M: Format, F: Flash>(
     ensures exact { NothingFails (F.device flash.old) (F.device flash.new)
         → IsRepairWritten (B.holding bucket.old).kind rec.now (F.device flash.old)
         (F.device flash.new) }
+    ensures wears { WearsCopy (M.form format.now) (B.holding bucket.old).kind
+        (F.device flash.old) (F.device flash.new) }
     ensures counts { CountsAs (B.holding bucket.old).kind rec.now
         (F.device flash.old) (F.device flash.new) result }
     ensures bounds { IsBoundedInSum ((B.holding bucket.old).kind ∷ []) rec.now
@@ -84,7 +87,7 @@ fn read_back<B: Bucket, M: Format, F: Flash>(
     ensures ends { ReadsAs (M.form format.now) (B.holding bucket.old).kind area.now
         (F.device flash.old) (F.device flash.new) result }
     ensures counts { ReadsOnce (F.device flash.old) (F.device flash.new) result }
-    ensures quiet { told_but_reads (F.device flash.new) ≡ told_but_reads (F.device flash.old) }
+    ensures quiet { IsQuiet (F.device flash.old) (F.device flash.new) }
     ensures settles { SettlesCopy (M.form format.now) (B.holding bucket.old).kind area.now
         (F.device flash.old) (F.device flash.new) }
     ensures kind { (B.holding bucket.new).kind ≡ (B.holding bucket.old).kind }

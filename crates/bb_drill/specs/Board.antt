@@ -1,5 +1,5 @@
 -- The board of a drill, and what stays on it from session to session.
-use Rattle.std.specs.Prelude.{◌≡◌, ℕ, ◌*◌, ◌+◌, ◌≤◌, ⊤, List, [], replicate, length, slice_set, if◌then◌else◌}
+use Rattle.std.specs.Prelude.{◌≡◌, ℕ, ◌*◌, ◌+◌, ◌≤◌, ⊤, false, List, [], replicate, length, slice_set, if◌then◌else◌}
 use Rattle.bb_base.specs.Faults.{Rose}
 use Rattle.bb_flash.specs.declared.geometry.Geometry.{Geometry}
 use Rattle.bb_flash.specs.declared.health.Health.{Health}
@@ -22,7 +22,11 @@ unfoldable pub fresh_bytes : List ℕ
 fresh_bytes = replicate 768 255
 
 unfoldable pub fresh_image : Image
-fresh_image = record { bytes = fresh_bytes; health = replicate 12 Fine }
+fresh_image = record {
+  bytes = fresh_bytes;
+  health = replicate 12 Fine;
+  marked = replicate 3 false;
+}
 
 -- four pages from one on have these healths
 abbrev pub with_pages : ℕ → Health → Health → Health → Health → List Health → List Health

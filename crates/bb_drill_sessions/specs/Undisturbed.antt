@@ -27,6 +27,7 @@ device_at state = record {
   faults = 0;
   read_faults = 0;
   start_faults = 0;
+  breaks = 0;
 }
 
 -- what the rounds of a plan are answered there

@@ -15,7 +15,7 @@ use Rattle.bb_flash.proofs.Moments.{image_at-now}
 -- an image that counts is one that a cut may have left
 pub Cuts-Counts : (L : Change → Image → Type 0) (page : ℕ) (told : Told) (since : ℕ) (image : Image) → Counts L page told since image → Cuts page told since image
 Cuts-Counts L page told since image (inl now) = inl now.held
-Cuts-Counts L page told since image (inr torn) = inr (record { call = torn.call; change = torn.change; later = torn.later; made = torn.made; torn = torn.torn })
+Cuts-Counts L page told since image (inr torn) = inr (record { call = torn.call; change = torn.change; later = torn.later; made = torn.made; torn = torn.torn; marks = torn.marks })
 
 -- what holds of every image holds of those that count
 pub counted_of_images : (L : Change → Image → Type 0) (R : Image → Image → Type 0) (from to : Device) → EachImage R from to → EachCounted L R from to
@@ -39,7 +39,7 @@ fair_fewer L K told since until more fair = λ call change later before made luc
 counts_fewer : (L K : Change → Image → Type 0) (page : ℕ) (told : Told) (since : ℕ) (image : Image) → ((change : Change) (image : Image) → L change image → K change image) → Counts K page told since image → Counts L page told since image
 counts_fewer L K page told since image more (inl now) = inl (record { held = now.held; fair = fair_fewer L K told since (moment told) more now.fair })
 counts_fewer L K page told since image more (inr torn) =
-    inr (record { call = torn.call; change = torn.change; later = torn.later; made = torn.made; torn = torn.torn; unlucky = λ lucky. torn.unlucky (more torn.change image lucky); fair = fair_fewer L K told since torn.call more torn.fair })
+    inr (record { call = torn.call; change = torn.change; later = torn.later; made = torn.made; torn = torn.torn; marks = torn.marks; unlucky = λ lucky. torn.unlucky (more torn.change image lucky); fair = fair_fewer L K told since torn.call more torn.fair })
 
 -- where more is taken for luck, fewer images count
 pub counted_fewer : (L K : Change → Image → Type 0) (R : Image → Image → Type 0) (from to : Device) → ((change : Change) (image : Image) → L change image → K change image) → EachCounted L R from to → EachCounted K R from to
@@ -126,12 +126,13 @@ counts_at L one two three k first mid order last continued image (inr torn) = el
         later = torn.later;
         made = made;
         torn = subst (λ (p : ℕ). Torn p torn.change.at torn.change.len torn.change.before image) page torn.torn;
+        marks = torn.marks;
         unlucky = torn.unlucky;
         fair = fair_earlier L mid last (moment first) torn.call torn.call continued (omega arith) (omega arith) torn.fair;
       }))
   | inr late ↦
       inr
-      (record { held = refl; fair = fair_earlier L mid last (moment first) (moment mid) torn.call continued (omega arith) late torn.fair }, inr (record { call = torn.call; change = torn.change; later = late; made = torn.made; torn = torn.torn; unlucky = torn.unlucky; fair = fair_later L last (moment first) (moment mid) torn.call order torn.fair }))
+      (record { held = refl; fair = fair_earlier L mid last (moment first) (moment mid) torn.call continued (omega arith) late torn.fair }, inr (record { call = torn.call; change = torn.change; later = late; made = torn.made; torn = torn.torn; marks = torn.marks; unlucky = torn.unlucky; fair = fair_later L last (moment first) (moment mid) torn.call order torn.fair }))
 ]
 
 -- Two runs that follow each other, where the second began with an image that has M: an image that

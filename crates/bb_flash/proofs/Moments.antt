@@ -6,7 +6,7 @@ use Rattle.std.specs.Option.{ForSome, is_some, option_map}
 use Rattle.std.proofs.lemmas.List.{length-take, take-take}
 use Rattle.std.proofs.lemmas.Option.{slice_get_past, slice_get_within}
 use Rattle.bb_flash.specs.Calls.{ChangesOnly, IsTornBy, HasNoChange, told_after_read}
-use Rattle.bb_flash.specs.Cuts.{Cuts, EachImage, EachTorn, IsContinued, IsLater, IsSameRegion, IsTornSince}
+use Rattle.bb_flash.specs.Cuts.{Cuts, EachImage, EachTorn, IsContinued, IsLater, IsMarkedBy, IsSameRegion, IsTornSince}
 use Rattle.bb_flash.specs.Device.{Change, Device, IsDevice, Told, change_of, image_at, moment}
 use Rattle.bb_flash.specs.Image.{Image, Torn}
 use Rattle.bb_flash.proofs.Tearing.{Torn-refl, Torn-trans}
@@ -15,7 +15,7 @@ use Rattle.bb_flash.proofs.Regions.{IsSameRegion-trans, Torn-region, Torn-wider}
 -- an image that counts since a moment counts since every earlier one
 pub Cuts-earlier : (page : ℕ) (told : Told) (earlier later : ℕ) (image : Image) → earlier ≤ later → Cuts page told later image → Cuts page told earlier image
 Cuts-earlier page told earlier later image order (inl now) = inl now
-Cuts-earlier page told earlier later image order (inr torn) = inr (record { call = torn.call; change = torn.change; later = omega (arith, order, torn.later); made = torn.made; torn = torn.torn })
+Cuts-earlier page told earlier later image order (inr torn) = inr (record { call = torn.call; change = torn.change; later = omega (arith, order, torn.later); made = torn.made; torn = torn.torn; marks = torn.marks })
 
 -- at the present moment the content itself counts
 pub Cuts-now : (page : ℕ) (told : Told) (since : ℕ) → Cuts page told since told.image
@@ -49,11 +49,11 @@ below_or_not (suc m) (suc n) = elim (below_or_not m n) [ inl h ↦ inl (omega ar
 pub Cuts-changes : (page at : ℕ) (bytes : List ℕ) (before after : Told) (since : ℕ) (image : Image) → HasNoChange before after ⊎ IsTornBy page at bytes before after → Cuts page after since image → Cuts page before since image ⊎ ((image ≡ after.image) ⊎ Torn page at (length bytes) before.image image)
 Cuts-changes page at bytes before after since image how (inl now) = inr (inl now)
 Cuts-changes page at bytes before after since image (inl same) (inr torn) =
-    inl (inr (record { call = torn.call; change = torn.change; later = torn.later; made = ap (λ changes. slice_get changes torn.call) (sym same.changes) ∙ torn.made; torn = torn.torn }))
+    inl (inr (record { call = torn.call; change = torn.change; later = torn.later; made = ap (λ changes. slice_get changes torn.call) (sym same.changes) ∙ torn.made; torn = torn.torn; marks = torn.marks }))
 Cuts-changes page at bytes before after since image (inr tears) (inr torn) =
     let change : Change = change_of page at bytes before.image in
     elim (slice_get-append before.changes (change ∷ []) torn.call torn.change (ap (λ changes. slice_get changes torn.call) (sym tears.change) ∙ torn.made)) [
-      | inl old ↦ inl (inr (record { call = torn.call; change = torn.change; later = torn.later; made = old; torn = torn.torn }))
+      | inl old ↦ inl (inr (record { call = torn.call; change = torn.change; later = torn.later; made = old; torn = torn.torn; marks = torn.marks }))
       | inr new ↦
           let same : change ≡ torn.change = only_item change (torn.call - length before.changes) torn.change new.1 in
           inr (inr (subst (λ (c : Change). Torn page c.at c.len c.before image) (sym same) torn.torn))
@@ -102,6 +102,40 @@ images_of_read done from to told = record {
       ];
 }
 
+-- one of the two marks that a change leaves, where it leaves those that were before
+same_marks : (change : Change) (image : Image) (marked : List Bool) → change.before.marked ≡ marked → change.after.marked ≡ marked → IsMarkedBy change image → image.marked ≡ marked
+same_marks change image marked before after by = elim by.marked [ inl old ↦ old ∙ before | inr new ↦ new ∙ after ]
+
+marks_last : (page at : ℕ) (bytes : List ℕ) (before after : Told) → HasNoChange before after ⊎ IsTornBy page at bytes before after → after.image.marked ≡ before.image.marked
+marks_last page at bytes before after (inl same) = ap (λ i. i.marked) same.image
+marks_last page at bytes before after (inr tears) = tears.marked
+
+-- a call since the first state's moment is the one that a program or an erase made
+marks_torn : (page at : ℕ) (bytes : List ℕ) (before after : Told) (image : Image) → HasNoChange before after ⊎ IsTornBy page at bytes before after → IsTornSince page after (moment before) image → image.marked ≡ before.image.marked
+marks_torn page at bytes before after image (inl same) torn =
+    absurd (too_late page before image (record { call = torn.call; change = torn.change; later = torn.later; made = ap (λ changes. slice_get changes torn.call) (sym same.changes) ∙ torn.made; torn = torn.torn; marks = torn.marks }))
+marks_torn page at bytes before after image (inr tears) torn =
+    let change : Change = change_of page at bytes before.image in
+    elim (slice_get-append before.changes (change ∷ []) torn.call torn.change (ap (λ changes. slice_get changes torn.call) (sym tears.change) ∙ torn.made)) [
+      | inl old ↦ absurd (too_late page before image (record { call = torn.call; change = torn.change; later = torn.later; made = old; torn = torn.torn; marks = torn.marks }))
+      | inr new ↦
+          let same : change ≡ torn.change = only_item change (torn.call - length before.changes) torn.change new.1 in
+          same_marks torn.change image before.image.marked (ap (λ (c : Change). c.before.marked) (sym same)) (ap (λ (c : Change). c.after.marked) (sym same)) torn.marks
+    ]
+
+-- no image that a cut during a program or an erase may have left has other marks
+pub marks_of_call : (at : ℕ) (bytes : List ℕ) (from to : Device) → IsLater from to → ChangesOnly at bytes from to → EachImage (λ before image. image.marked ≡ before.marked) from to
+marks_of_call at bytes from to later changes = record {
+  each = λ first e last f image cut.
+      let how = changes.told first e last f in
+      elim cut [
+        | inl now ↦ ap (λ (i : Image). i.marked) now ∙ marks_last from.geometry.page at bytes first last how
+        | inr torn ↦
+            marks_torn from.geometry.page at bytes first last image how
+            (subst (λ (p : ℕ). IsTornSince p last (moment first) image) (ap (λ geo. geo.page) later.geometry) torn)
+      ];
+}
+
 pub images_weaker : (R S : Image → Image → Type 0) (from to : Device) → ((x y : Image) → R x y → S x y) → EachImage R from to → EachImage S from to
 images_weaker R S from to weaker images = record { each = λ first e last f image cut. weaker first.image image (images.each first e last f image cut) }
 
@@ -132,6 +166,7 @@ later_same device = record {
   told = refl;
   faults = omega arith;
   read_faults = omega arith;
+  breaks = omega arith;
   continued = λ first e last f.
       let same : first ≡ last = cc in
       subst (λ (told : Told). IsContinued first told) same
@@ -152,6 +187,7 @@ later_joined one two three h k = record {
   told = k.told ∙ h.told;
   faults = omega (arith, h.faults, k.faults);
   read_faults = omega (arith, h.read_faults, k.read_faults);
+  breaks = omega (arith, h.breaks, k.breaks);
   continued = λ first e last f.
       let there = some_of two.told (h.told ∙ ap is_some e) in
       let mid = there.0 in
@@ -179,8 +215,9 @@ joined_at one two three k first mid g last f continued image (inr torn) = elim (
         later = torn.later;
         made = made;
         torn = subst (λ (p : ℕ). Torn p torn.change.at torn.change.len torn.change.before image) page torn.torn;
+        marks = torn.marks;
       }))
-  | inr late ↦ inr (inr (record { call = torn.call; change = torn.change; later = late; made = torn.made; torn = torn.torn }))
+  | inr late ↦ inr (inr (record { call = torn.call; change = torn.change; later = late; made = torn.made; torn = torn.torn; marks = torn.marks }))
 ]
 
 -- where two runs follow each other, and an image torn in the first has T, and so does one torn in

@@ -1,5 +1,5 @@
 -- What a torn call may leave.
-use Rattle.std.proofs.Common.{◌≡◌, ℕ, zero, suc, ◌+◌, ◌*◌, ◌/◌, ◌<◌, ◌≤◌, ◌∙◌, List, length, take, drop, Option, Some, None, replicate, ap, sym, subst, arith}
+use Rattle.std.proofs.Common.{◌≡◌, ℕ, zero, suc, ◌+◌, ◌*◌, ◌/◌, ◌<◌, ◌≤◌, ◌∙◌, List, length, take, drop, Option, Some, None, replicate, ap, sym, subst, arith, refl}
 use Rattle.std.proofs.lemmas.Grind.{common_steps, div_ceil_times}
 use Rattle.std.proofs.lemmas.List.{length-replicate, length-take}
 use Rattle.std.specs.Int.{div_ceil}
@@ -83,6 +83,18 @@ Torn-left_by None page image at bytes inside =
     (SameOutside-with_items_at at (length bytes) bytes image.bytes inside.inside (omega arith))
 Torn-left_by (Some (Fail filling)) page image at bytes inside = torn_filled filling page image at bytes inside
 Torn-left_by (Some (Cut filling)) page image at bytes inside = torn_filled filling page image at bytes inside
+
+marks_filled : (filling : Fill) (page : ℕ) (image : Image) (at : ℕ) (bytes : List ℕ) → (with_fill filling page at bytes image).marked ≡ image.marked
+marks_filled Old page image at bytes = refl
+marks_filled Half page image at bytes = refl
+marks_filled Junk page image at bytes = refl
+marks_filled Lost page image at bytes = refl
+
+-- no write changes a mark
+pub marks-left_by : (fault : Option Fault) (page : ℕ) (image : Image) (at : ℕ) (bytes : List ℕ) → (left_by fault page at bytes image).marked ≡ image.marked
+marks-left_by None page image at bytes = refl
+marks-left_by (Some (Fail filling)) page image at bytes = marks_filled filling page image at bytes
+marks-left_by (Some (Cut filling)) page image at bytes = marks_filled filling page image at bytes
 
 -- a torn image is one of the same device
 pub IsImageOf-Torn : (geometry : Geometry) (page : ℕ) (before : Image) (at len : ℕ) (image : Image) → Torn page at len before image → IsImageOf geometry before → IsImageOf geometry image

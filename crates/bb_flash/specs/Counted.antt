@@ -5,6 +5,7 @@
 use Rattle.std.specs.Prelude.{◌≡◌, ◌⊎◌, ℕ, ◌+◌, ◌<◌, ◌≤◌, slice_get, Some}
 use Rattle.std.specs.Option.{ForSome}
 use Rattle.bb_flash.specs.Image.{Image, Torn}
+use Rattle.bb_flash.specs.Cuts.{IsMarkedBy}
 use Rattle.bb_flash.specs.Device.{Change, Told, Device, image_at, moment}
 
 -- none of the changes between two moments left an image by luck
@@ -28,6 +29,7 @@ pub record CountsTorn
   pub later : since ≤ call
   pub made : slice_get told.changes call ≡ Some change
   pub torn : Torn page change.at change.len change.before image
+  pub marks : IsMarkedBy change image
   pub unlucky : IsLucky change image → ⊥
   pub fair : IsFair IsLucky told since call
 

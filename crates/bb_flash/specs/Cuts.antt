@@ -4,6 +4,11 @@ use Rattle.std.specs.Option.{ForSome}
 use Rattle.bb_flash.specs.Image.{Image, Torn, touched_pages}
 use Rattle.bb_flash.specs.Device.{Change, Told, Device, image_at, moment}
 
+-- an image has the marks that stood before a call, or those that the call leaves where it answers
+-- Ok
+pub record IsMarkedBy (change : Change) (image : Image) : Type 0 where
+  pub marked : (image.marked ≡ change.before.marked) ⊎ (image.marked ≡ change.after.marked)
+
 -- a cut during one of the calls since a moment may have left this image
 pub record IsTornSince (page : ℕ) (told : Told) (since : ℕ) (image : Image) : Type 0 where
   pub call : ℕ
@@ -11,6 +16,7 @@ pub record IsTornSince (page : ℕ) (told : Told) (since : ℕ) (image : Image) 
   pub later : since ≤ call
   pub made : slice_get told.changes call ≡ Some change
   pub torn : Torn page change.at change.len change.before image
+  pub marks : IsMarkedBy change image
 
 -- a cut since a moment may have left this image: it is what the device holds, or torn from a call
 -- since
@@ -49,4 +55,5 @@ pub record IsLater (from to : Device) : Type 0 where
   pub told : is_some to.told ≡ is_some from.told
   pub faults : from.faults ≤ to.faults
   pub read_faults : from.read_faults ≤ to.read_faults
+  pub breaks : from.breaks ≤ to.breaks
   pub continued : ForSome from.told (λ first. ForSome to.told (IsContinued first))

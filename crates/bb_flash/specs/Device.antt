@@ -1,12 +1,12 @@
 -- A flash device as contracts see it, at one moment.
-use Rattle.std.specs.Prelude.{◌≡◌, ◌≢◌, ℕ, ◌+◌, ◌/◌, ◌≤◌, List, length, take, drop, slice_get, unwrap_or, Option, option_map}
+use Rattle.std.specs.Prelude.{◌≡◌, ◌≢◌, ℕ, ◌+◌, ◌*◌, ◌/◌, ◌≤◌, List, length, take, drop, slice_get, unwrap_or, Option, option_map}
 use Rattle.std.specs.Option.{ForSome}
 use Rattle.bb_flash.specs.declared.geometry.Geometry.{Geometry}
 use Rattle.bb_flash.specs.declared.health.Health.{Health}
 use Rattle.bb_flash.specs.declared.health.Health.TheVariants.{Fine, Lost}
 use Rattle.bb_flash.specs.declared.plan.Plan.{Plan}
 use Rattle.bb_flash.specs.Geometry.{IsGeometry}
-use Rattle.bb_flash.specs.Image.{Image, IsImageOf, health_of, with_bytes}
+use Rattle.bb_flash.specs.Image.{Image, IsImageOf, health_of, with_bytes, with_mark}
 
 -- a start that a board made: its plan, and what the device held at that moment
 pub record Start : Type 0 where
@@ -28,6 +28,15 @@ change_of page at bytes before = record {
   after = with_bytes page at bytes Fine before;
   at = at;
   len = length bytes;
+}
+
+-- the call that is to mark a block: it touches no byte, and stands at the block's place
+abbrev pub marking_of : ℕ → ℕ → Image → Change
+marking_of size block before = record {
+  before = before;
+  after = with_mark block before;
+  at = block * size;
+  len = 0;
 }
 
 -- what a device tells of itself: memory boards do, and a device after the operating system doesn't
@@ -52,6 +61,8 @@ pub record Device : Type 0 where
   pub read_faults : ℕ
   -- starts that failed
   pub start_faults : ℕ
+  -- calls that failed, but for starts and for those that a marked block refused
+  pub breaks : ℕ
 
 -- the parts of what a device tells, where it tells
 abbrev pub content : Device → Option Image
@@ -85,6 +96,9 @@ pub record IsDevice (device : Device) : Type 0 where
   pub erases :
       ForSome (erases device)
       (λ numbers. length numbers ≡ device.geometry.size / device.geometry.block)
+  pub marks :
+      ForSome (content device)
+      (λ image. length image.marked ≡ device.geometry.size / device.geometry.block)
 
 -- no system was started in between, nor did a start fail
 pub record LeavesStarts (before after : Device) : Type 0 where
@@ -107,6 +121,7 @@ pub record StartKeeps (before after : Device) : Type 0 where
   pub reads : reads after ≡ reads before
   pub faults : after.faults ≡ before.faults
   pub read_faults : after.read_faults ≡ before.read_faults
+  pub breaks : after.breaks ≡ before.breaks
 
 -- what a read gave that answered Ok: the worst health of the pages that it touched, and their
 -- bytes; of bytes in a Lost page nothing is said

@@ -1,14 +1,25 @@
--- What a flash device holds at one moment: its bytes, and the health of each page.
-use Rattle.std.specs.Prelude.{◌≡◌, ◌≢◌, ℕ, ◌+◌, ◌-◌, ◌*◌, ◌/◌, ◌^◌, ◌<◌, ◌≤◌, ◌==◌, if◌then◌else◌, List, [], length, take, drop, ◌++◌, fold, replicate}
+-- What a flash device holds at one moment: its bytes, the health of each page, and which of its
+-- blocks are marked as bad.
+use Rattle.std.specs.Prelude.{◌≡◌, ◌≢◌, ℕ, ◌+◌, ◌-◌, ◌*◌, ◌/◌, ◌^◌, ◌<◌, ◌≤◌, ◌==◌, if◌then◌else◌, Bool, true, false, List, [], length, take, drop, ◌++◌, fold, replicate, slice_index_or, slice_set}
+use Rattle.std.specs.List.{list_any}
 use Rattle.std.specs.Int.{div_ceil}
 use Rattle.bb_flash.specs.declared.geometry.Geometry.{Geometry}
 use Rattle.bb_flash.specs.declared.health.Health.{Health}
 use Rattle.bb_flash.specs.declared.health.Health.TheVariants.{Fine, Worn, Lost}
 
--- one health a page
+-- one health a page, and one mark a block: true where it is bad
 pub record Image : Type 0 where
   pub bytes : List ℕ
   pub health : List Health
+  pub marked : List Bool
+
+-- a block is marked
+abbrev pub is_bad : Image → ℕ → Bool
+is_bad image block = slice_index_or image.marked block false
+
+-- with a block marked
+abbrev pub with_mark : ℕ → Image → Image
+with_mark block image = record image { marked = slice_set image.marked block true }
 
 -- an image of a device of this geometry: as many bytes as its size, and whole pages
 pub record IsImageOf (geometry : Geometry) (image : Image) : Type 0 where
@@ -81,3 +92,9 @@ pub record SameOutside {X : Type 0} (at len : ℕ) (before after : List X) : Typ
 pub record Torn (page at len : ℕ) (before image : Image) : Type 0 where
   pub bytes : SameOutside at len before.bytes image.bytes
   pub health : SameOutside (at / page) (page_count page at len) before.health image.health
+
+-- one of the `len` bytes at a place stands in a block that is marked
+abbrev pub touches_mark : Geometry → ℕ → ℕ → Image → Bool
+touches_mark geometry at len image =
+    list_any (λ mark. mark)
+    (take (page_count geometry.block at len) (drop (at / geometry.block) image.marked))

@@ -8,5 +8,6 @@ pub mod Geometry
 pub mod Image
 -- Inside: the board in memory, on which tests stand.
 pub mod Filled
+pub mod Marking
 pub mod Memory
 pub mod Saved

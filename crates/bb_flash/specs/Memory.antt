@@ -10,6 +10,7 @@ use Rattle.bb_flash.specs.declared.plan.Plan.{Plan}
 use Rattle.bb_flash.specs.Device.{Device, Told}
 use Rattle.bb_flash.specs.Calls.{erased_bytes, with_change, told_after_read, with_erase, told_after_start}
 use Rattle.bb_flash.specs.Filled.{is_cut, left_by}
+use Rattle.bb_flash.specs.Image.{touches_mark}
 
 -- what a board in memory is
 pub record Memory : Type 0 where
@@ -18,6 +19,7 @@ pub record Memory : Type 0 where
   pub faults : ℕ
   pub read_faults : ℕ
   pub start_faults : ℕ
+  pub breaks : ℕ
   -- what the counts of failed calls and of failed starts were at the last restart
   pub faults_before : ℕ
   pub start_faults_before : ℕ
@@ -49,6 +51,7 @@ device_of memory = record {
   faults = memory.faults;
   read_faults = memory.read_faults;
   start_faults = memory.start_faults;
+  breaks = memory.breaks;
 }
 
 -- a fresh board: its pages are Fine, and nothing has happened
@@ -56,7 +59,11 @@ abbrev pub fresh_memory : Geometry → List ℕ → ℕ → ℕ → Memory
 fresh_memory geometry bytes most_calls most_bytes = record {
   geometry = geometry;
   told = record {
-    image = record { bytes = bytes; health = replicate (geometry.size / geometry.page) Fine };
+    image = record {
+      bytes = bytes;
+      health = replicate (geometry.size / geometry.page) Fine;
+      marked = replicate (geometry.size / geometry.block) false;
+    };
     starts = [];
     erases = replicate (geometry.size / geometry.block) 0;
     reads = 0;
@@ -65,6 +72,7 @@ fresh_memory geometry bytes most_calls most_bytes = record {
   faults = 0;
   read_faults = 0;
   start_faults = 0;
+  breaks = 0;
   faults_before = 0;
   start_faults_before = 0;
   most_calls = most_calls;
@@ -121,19 +129,30 @@ is_erase_refused memory block =
     || (is_none (fault_of memory)
     && (is_full memory.erase_count || is_full (slice_index memory.told.erases block)))
 
+-- a program or an erase touches a marked block
+abbrev pub is_marked_at : Memory → ℕ → ℕ → Bool
+is_marked_at memory at len = touches_mark memory.geometry at len memory.told.image
+
 -- the answer is Failed
 abbrev pub fails_to_read : Memory → Bool
 fails_to_read memory = is_read_refused memory || is_some (fault_of memory)
 
-abbrev pub fails_to_program : Memory → ℕ → Bool
-fails_to_program memory len = is_program_refused memory len || is_some (fault_of memory)
+abbrev pub fails_to_program : Memory → ℕ → ℕ → Bool
+fails_to_program memory at len =
+    is_marked_at memory at len || (is_program_refused memory len || is_some (fault_of memory))
 
 abbrev pub fails_to_erase : Memory → ℕ → Bool
-fails_to_erase memory block = is_erase_refused memory block || is_some (fault_of memory)
+fails_to_erase memory block =
+    is_marked_at memory (block * memory.geometry.block) memory.geometry.block
+    || (is_erase_refused memory block || is_some (fault_of memory))
+
+-- with one call more that a marked block refused
+abbrev pub with_refusal : Memory → Memory
+with_refusal memory = record memory { faults = one_more memory.faults }
 
 -- with one call more that failed
 abbrev pub with_fault : Memory → Memory
-with_fault memory = record memory { faults = one_more memory.faults }
+with_fault memory = record (with_refusal memory) { breaks = one_more memory.breaks }
 
 -- with one read more that failed
 abbrev pub with_read_fault : Memory → Memory
@@ -179,7 +198,9 @@ program_by (Some fault) at bytes memory = with_fault (with_write (Some fault) at
 -- after a program
 abbrev pub after_program : ℕ → List ℕ → Memory → Memory
 after_program at bytes memory =
-    if is_program_refused memory (length bytes)
+    if is_marked_at memory at (length bytes)
+    then with_refusal memory
+    else if is_program_refused memory (length bytes)
     then with_fault memory
     else program_by (fault_of memory) at bytes memory
 
@@ -200,7 +221,9 @@ erase_by (Some fault) block memory = with_fault (with_blanks (Some fault) block 
 -- after an erase
 abbrev pub after_erase : ℕ → Memory → Memory
 after_erase block memory =
-    if is_erase_refused memory block
+    if is_marked_at memory (block * memory.geometry.block) memory.geometry.block
+    then with_refusal memory
+    else if is_erase_refused memory block
     then with_fault memory
     else erase_by (fault_of memory) block memory
 

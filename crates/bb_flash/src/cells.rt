@@ -1,17 +1,20 @@
 ghost use Rattle.std.specs.Prelude.{◌≡◌, ◌+◌, ◌≤◌, ◌<◌, length, replicate, IfOk};
-ghost use Rattle.bb_flash.specs.Filled.{with_fill, left_by};
+ghost use Rattle.bb_flash.specs.Device.{IsReading};
+ghost use Rattle.bb_flash.specs.Filled.{with_fill, left_by, marked_by};
 ghost use Rattle.bb_flash.specs.Image.{IsInside, with_items_at, in_health};
 
+use crate::pages::copy_out;
 use crate::{Fault, Fill, Health};
 use bb_base::NoMemory;
 use std::alloc::Global;
 use std::marker::Model;
 
-/// What a board in memory holds: its bytes, and one health a page.
+/// What a board in memory holds: its bytes, one health a page, and one mark a block.
 #[derive(Debug, Drop)]
 pub struct Cells {
     pub bytes: Vec<u8>,
     pub health: Vec<Health>,
+    pub marked: Vec<bool>,
 }
 
 impl Model for Cells {
@@ -19,7 +22,12 @@ impl Model for Cells {
 
     ghost Value = { Image };
 
-    ghost view = { λ cells. record { bytes = cells.bytes.items; health = cells.health.items } };
+    ghost view = { λ cells.
+        record {
+          bytes = cells.bytes.items;
+          health = cells.health.items;
+          marked = cells.marked.items;
+        } };
 }
 
 impl Cells {
@@ -30,7 +38,16 @@ impl Cells {
         Ok(Cells {
             bytes: self.bytes.to_vec(alloc)?,
             health: self.health.to_vec(alloc)?,
+            marked: self.marked.to_vec(alloc)?,
         })
+    }
+
+    /// Copies what stands at a place into `out`. The answer is the worst health of its pages.
+    pub fn read(&self, page: u32, at: u32, out: &mut [u8]) -> Health
+        requires { IsInside page self.now at (length out.old) }
+        ensures { IsReading page self.now at out.new result }
+    {
+        copy_out(&self.bytes, &self.health, page, at, out)
     }
 
     // Writes bytes over those at a place.
@@ -90,6 +107,18 @@ impl Cells {
                 self.put(at, bytes);
                 self.set_health(page, at, bytes.len() as u32, Health::Fine);
             }
+        }
+    }
+
+    /// Leaves what a call leaves that was to mark a block, by the fault that was planned for it.
+    pub fn mark(&mut self, block: u32, fault: Option<Fault>)
+        requires { block < length self.old.marked }
+        ensures { self.new ≡ marked_by fault block self.old }
+    {
+        match fault {
+            Some(Fault::Fail(Fill::Old | Fill::Half) | Fault::Cut(Fill::Old | Fill::Half)) =>
+                return,
+            _ => self.marked[block as usize] = true,
         }
     }
 }

@@ -1,8 +1,9 @@
 ghost use Rattle.std.specs.Prelude.{◌≡◌, ◌+◌, ◌*◌, ◌≤◌, length, option_map, IfOk, OnOk, OnErr};
 ghost use Rattle.std.specs.Option.{ForSome};
-ghost use Rattle.bb_flash.specs.Calls.{CanErase, CanProgram, IsChangeCall, IsReadCall};
-ghost use Rattle.bb_flash.specs.Calls.{erased_bytes};
-ghost use Rattle.bb_flash.specs.Calls.{told_after_erase, told_after_program};
+ghost use Rattle.bb_flash.specs.Calls.{CanErase, CanProgram, IsAsked, IsChangeCall};
+ghost use Rattle.bb_flash.specs.Calls.{IsMarkCall, IsReadCall, erased_bytes};
+ghost use Rattle.bb_flash.specs.Calls.{told_after_erase, told_after_mark, told_after_program};
+ghost use Rattle.bb_flash.specs.Image.{is_bad};
 ghost use Rattle.bb_flash.specs.Device.{Device, IsDevice, IsReading, content, erases};
 
 use crate::{Geometry, Health};
@@ -10,7 +11,9 @@ use bb_base::Failed;
 
 /// A flash device. It means a `Device`: its geometry, what it holds, where it tells that, and
 /// counts of faults, which are 64-bit numbers that stand still at 2^64 - 1. A call that fails
-/// raises its counts by one, and one that answers Ok raises none.
+/// raises its counts by one, and one that answers Ok raises none. Blocks may be marked as bad: a
+/// program or an erase that touches a marked block fails, changes nothing, and is no break. Every
+/// other call that fails is one.
 pub trait Flash {
     ghost device: { Self → Device };
 
@@ -54,4 +57,22 @@ pub trait Flash {
         ensures call { let geometry = (device self.old).geometry in
             IsChangeCall result (block * geometry.block) (erased_bytes geometry)
             (device self.old) (device self.new) };
+
+    /// Answers whether a block, counted from 0, is marked as bad. It changes nothing on the device.
+    /// Where it fails it raises all three counts, those of faults, of read faults and of breaks.
+    fn bad(&mut self, block: u32) -> Result<bool, Failed>
+        requires { CanErase (device self.old).geometry block }
+        ensures done { IfOk result (λ bad. ForSome (content (device self.old)) (λ image.
+            bad ≡ is_bad image block)) }
+        ensures call { IsAsked result (device self.old) (device self.new) };
+
+    /// Marks a block, counted from 0, as bad: from then on each program and each erase that touches
+    /// it is refused. Once it answered Ok the mark outlives a power cut. Where it fails, and where
+    /// a cut falls into it, the block is marked or not. All else on the device stays.
+    fn mark(&mut self, block: u32) -> Result<(), Failed>
+        requires { CanErase (device self.old).geometry block }
+        ensures done { OnOk result ((device self.new).told
+            ≡ option_map (told_after_mark (device self.old).geometry block)
+            (device self.old).told) }
+        ensures call { IsMarkCall result block (device self.old) (device self.new) };
 }

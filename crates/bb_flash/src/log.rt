@@ -5,12 +5,20 @@ use bb_base::NoMemory;
 use std::alloc::Global;
 use std::marker::Model;
 
+// A block that a call was to mark, and whether it was marked before.
+#[derive(Clone, Copy, Debug, PartialEq, Eq)]
+pub struct BadMark {
+    pub block: u32,
+    pub was: bool,
+}
+
 // Where a call wrote, how many bytes, and in how many pages.
 #[derive(Clone, Copy, Debug, PartialEq, Eq)]
 pub struct Span {
     pub at: u32,
     pub bytes: usize,
     pub pages: usize,
+    pub mark: Option<BadMark>,
 }
 
 /// What stood in the range of each call that changed a board, before that call, and what the call
@@ -80,14 +88,27 @@ impl Log {
     }
 
     /// Saves what stands in the range of a call, and what the call is to write. It takes no memory.
-    pub fn save(&mut self, at: u32, before: &[u8], health: &[Health], bytes: &[u8])
+    pub fn save(
+        &mut self,
+        at: u32,
+        before: &[u8],
+        health: &[Health],
+        bytes: &[u8],
+        mark: Option<BadMark>,
+    )
         requires calls { length self.old.saved < self.old.most_calls }
         requires bytes { self.old.used + length bytes.now ≤ self.old.most_bytes }
         requires range { length before.now ≡ length bytes.now }
         requires pages { length health.now ≤ length bytes.now }
         ensures { self.new ≡ record self.old {
           used = self.old.used + length bytes.now;
-          saved = record { at = at; before = before.now; health = health.now; bytes = bytes.now }
+          saved = record {
+            at = at;
+            before = before.now;
+            health = health.now;
+            bytes = bytes.now;
+            mark = mark;
+          }
               ∷ self.old.saved;
         } }
     {
@@ -95,6 +116,7 @@ impl Log {
             at,
             bytes: bytes.len(),
             pages: health.len(),
+            mark,
         };
         let _ = self.spans.push(span);
         let _ = self.before.extend_from_slice(before);

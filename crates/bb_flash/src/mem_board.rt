@@ -1,11 +1,13 @@
 ghost use Rattle.std.specs.Prelude.{◌≡◌, ◌+◌, ◌*◌, ◌<◌, ◌≤◌, ◌∷◌, length, option_map, IfOk, OnOk};
 ghost use Rattle.std.specs.Prelude.{OnErr, is_err};
 ghost use Rattle.std.specs.Option.{ForSome};
-ghost use Rattle.bb_flash.specs.Calls.{CanErase, CanProgram, IsChangeCall, IsReadCall};
-ghost use Rattle.bb_flash.specs.Calls.{erased_bytes};
-ghost use Rattle.bb_flash.specs.Calls.{told_after_erase, told_after_program};
+ghost use Rattle.bb_flash.specs.Calls.{CanErase, CanProgram, IsAsked, IsChangeCall};
+ghost use Rattle.bb_flash.specs.Calls.{IsMarkCall, IsReadCall, erased_bytes};
+ghost use Rattle.bb_flash.specs.Calls.{told_after_erase, told_after_mark, told_after_program};
 ghost use Rattle.bb_flash.specs.Device.{IsReading, content, erases};
 ghost use Rattle.bb_flash.specs.Geometry.{IsGeometry};
+ghost use Rattle.bb_flash.specs.Image.{is_bad};
+ghost use Rattle.bb_flash.specs.Marking as marking;
 ghost use Rattle.bb_flash.specs.Memory as memory;
 ghost use Rattle.bb_flash.specs.Memory.{device_of};
 
@@ -25,7 +27,9 @@ use std::marker::Model;
 /// many calls and bytes as it took memory for, and each start, which takes room for as many bytes
 /// as the device has, for good. A call or a start fails where a fault is planned for it, where
 /// there is no room to record it, after a planned cut until a restart, and where a count but those
-/// of faults would pass 2^64 - 1; a start also where memory is refused.
+/// of faults would pass 2^64 - 1; a start also where memory is refused. A program or an erase that
+/// touches a marked block is refused first: it isn't recorded, meets no planned fault, and isn't
+/// among the calls that are counted.
 #[derive(Debug, Drop)]
 pub struct MemBoard {
     alloc: Global,
@@ -37,6 +41,7 @@ pub struct MemBoard {
     reads: u64,
     faults: FaultCount,
     read_faults: FaultCount,
+    breaks: FaultCount,
     calls: u32,
     plan: Vec<(u32, Fault)>,
     was_cut: bool,
@@ -70,6 +75,7 @@ impl Model for MemBoard {
           faults = board.faults.count;
           read_faults = board.read_faults.count;
           start_faults = board.start_faults.count;
+          breaks = board.breaks.count;
           faults_before = board.faults_before.count;
           start_faults_before = board.start_faults_before.count;
           most_calls = board.log.most_calls;
@@ -113,6 +119,7 @@ impl MemBoard {
             cells: Cells {
                 bytes: bytes.to_vec(alloc)?,
                 health: vec![in alloc; Health::Fine; pages as usize]?,
+                marked: vec![in alloc; false; geometry.blocks() as usize]?,
             },
             log: Log::with_room(alloc, calls, room)?,
             blank: vec![in alloc; 0xFF; geometry.block as usize]?,
@@ -120,6 +127,7 @@ impl MemBoard {
             reads: 0,
             faults: FaultCount::none(),
             read_faults: FaultCount::none(),
+            breaks: FaultCount::none(),
             calls: 0,
             plan: Vec::new(alloc),
             was_cut: false,
@@ -182,6 +190,17 @@ impl MemBoard {
         self.cells.health[page as usize] = health;
         self.log.clear();
     }
+
+    #[tactic(auto, unfolding(crate::specs::Saved::history))]
+    /// Marks a block of the device, counted from 0. What calls changed before is no longer
+    /// recorded.
+    pub fn set_bad(&mut self, block: u32)
+        requires { CanErase self.old.geometry block }
+        ensures { self.new ≡ marking.with_bad self.old block }
+    {
+        self.cells.marked[block as usize] = true;
+        self.log.clear();
+    }
 }
 
 impl Flash for MemBoard {
@@ -206,7 +225,7 @@ impl Flash for MemBoard {
     /// Its answer, and all that it leaves, follow from what the board is before it.
     fn program(&mut self, at: u32, bytes: &[u8]) -> Result<(), Failed>
         requires { CanProgram (device_of self.old) at (length bytes.now) }
-        ensures answer { is_err result ≡ memory.fails_to_program self.old (length bytes.now) }
+        ensures answer { is_err result ≡ memory.fails_to_program self.old at (length bytes.now) }
         ensures after { self.new ≡ memory.after_program at bytes.now self.old }
         ensures done { OnOk result ((device_of self.new).told
             ≡ option_map (told_after_program self.old.geometry.page at bytes.now)
@@ -231,5 +250,29 @@ impl Flash for MemBoard {
             (device_of self.old) (device_of self.new) }
     {
         self.erase_call(block)
+    }
+
+    /// Its answer, and all that it leaves, follow from what the board is before it.
+    fn bad(&mut self, block: u32) -> Result<bool, Failed>
+        requires { CanErase self.old.geometry block }
+        ensures answer { is_err result ≡ marking.fails_to_mark self.old }
+        ensures after { self.new ≡ marking.after_bad self.old }
+        ensures done { IfOk result (λ bad. ForSome (content (device_of self.old)) (λ image.
+            bad ≡ is_bad image block)) }
+        ensures call { IsAsked result (device_of self.old) (device_of self.new) }
+    {
+        self.bad_call(block)
+    }
+
+    /// Its answer, and all that it leaves, follow from what the board is before it.
+    fn mark(&mut self, block: u32) -> Result<(), Failed>
+        requires { CanErase self.old.geometry block }
+        ensures answer { is_err result ≡ marking.fails_to_mark self.old }
+        ensures after { self.new ≡ marking.after_mark block self.old }
+        ensures done { OnOk result ((device_of self.new).told
+            ≡ option_map (told_after_mark self.old.geometry block) (device_of self.old).told) }
+        ensures call { IsMarkCall result block (device_of self.old) (device_of self.new) }
+    {
+        self.mark_call(block)
     }
 }

@@ -1,8 +1,11 @@
-ghost use Rattle.std.specs.Prelude.{◌≡◌, ◌+◌, ◌*◌, ◌≤◌, ◌<◌, ◌^◌, length};
-ghost use Rattle.bb_flash.specs.Image.{worse_of, worst_of, touched_pages};
+ghost use Rattle.std.specs.Prelude.{◌≡◌, ◌+◌, ◌*◌, ◌/◌, ◌≤◌, ◌<◌, ◌^◌, Bool, List, length};
+ghost use Rattle.std.specs.Prelude.{take, drop};
+ghost use Rattle.std.specs.List.{list_any};
+ghost use Rattle.bb_flash.specs.Geometry.{IsGeometry};
+ghost use Rattle.bb_flash.specs.Image.{page_count, worse_of, worst_of, touched_pages};
 ghost use Rattle.bb_flash.specs.Device.{IsReading};
 
-use crate::Health;
+use crate::{Geometry, Health};
 
 // The worse of two.
 fn worse(one: Health, other: Health) -> Health
@@ -41,13 +44,34 @@ pub fn touched_pages(pages: &[Health], page: u32, at: u32, len: u32) -> &[Health
     &pages[first as usize..end as usize]
 }
 
+// One of the `len` bytes at a place stands in a block that is marked.
+pub fn touches_mark(marked: &[bool], geometry: Geometry, at: u32, len: u32) -> bool
+    requires blocks { length marked.now ≡ geometry.size / geometry.block }
+    requires inside { at + len ≤ geometry.size }
+    requires small { geometry.size < 2 ^ 32 }
+    requires whole { IsGeometry geometry }
+    ensures { result ≡ list_any (λ mark. mark)
+        (take (page_count geometry.block at len) (drop (at / geometry.block) marked.now)) }
+{
+    if geometry.block == 0 {
+        return false;
+    }
+    let first = at / geometry.block;
+    let end = (at + len).div_ceil(geometry.block);
+    marked[first as usize..end as usize]
+        .iter()
+        .any(|mark| *mark)
+}
+
 // Copies what stands at a place into `out`. The answer is the worst health of its pages.
 pub fn copy_out(bytes: &[u8], pages: &[Health], page: u32, at: u32, out: &mut [u8]) -> Health
     requires some { 0 < page }
     requires all { length bytes.now ≡ length pages.now * page }
     requires inside { at + length out.old ≤ length bytes.now }
     requires small { length bytes.now < 2 ^ 32 }
-    ensures { IsReading page (record { bytes = bytes.now; health = pages.now }) at out.new result }
+    ensures { (marked : List Bool) →
+        IsReading page (record { bytes = bytes.now; health = pages.now; marked = marked })
+        at out.new result }
 {
     let first = at as usize;
     out.copy_from_slice(&bytes[first..first + out.len()]);

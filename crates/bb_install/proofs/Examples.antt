@@ -127,7 +127,7 @@ no_bytes_among_them = refl
 -- ---- what a slot holds
 
 abbrev held : Image
-held = record { bytes = 9 ∷ 1 ∷ 2 ∷ 3 ∷ 9 ∷ []; health = Fine ∷ Fine ∷ Fine ∷ Lost ∷ Fine ∷ [] }
+held = record { bytes = 9 ∷ 1 ∷ 2 ∷ 3 ∷ 9 ∷ []; health = Fine ∷ Fine ∷ Fine ∷ Lost ∷ Fine ∷ []; marked = [] }
 
 holds_two : SlotHolds 1 (range 1 3) (1 ∷ 2 ∷ []) held
 holds_two = record { fits = lit≤ tt; stands = record { bytes_are = refl; alive = λ lost. absurd cc } }

@@ -68,7 +68,7 @@ pages_put : (page n : ℕ) (pages : List Health) → with_items_at (0 / page) (r
 pages_put page n pages = ap (λ k. with_items_at k (replicate (page_count page 0 n) Fine) pages) (zero-div page)
 
 -- what is written to a region's start
-pub put_is : (page : ℕ) (bytes : List ℕ) (part : Image) → put_at page 0 bytes part ≡ record { bytes = with_items_at 0 bytes part.bytes; health = with_items_at 0 (replicate (page_count page 0 (length bytes)) Fine) part.health }
+pub put_is : (page : ℕ) (bytes : List ℕ) (part : Image) → put_at page 0 bytes part ≡ record { bytes = with_items_at 0 bytes part.bytes; health = with_items_at 0 (replicate (page_count page 0 (length bytes)) Fine) part.health; marked = part.marked }
 put_is page bytes part = same_image _ _ _ _ refl (pages_put page (length bytes) part.health)
 
 pub put_none : (page : ℕ) (part : Image) → put_at page 0 [] part ≡ part
@@ -125,7 +125,7 @@ pages_over page n all pages some few whole every =
 pub put_over : (page : ℕ) (xs ys : List ℕ) (part : Image) → 0 < page → length xs ≤ length ys → length xs % page ≡ 0 → length ys % page ≡ 0 → put_at page 0 xs (put_at page 0 ys part) ≡ put_at page 0 (xs ++ drop (length xs) ys) part
 put_over page xs ys part some few whole every =
     let size : length (xs ++ drop (length xs) ys) ≡ length ys = omega (arith, length-append xs (drop (length xs) ys), length-drop (length xs) ys) in
-    ap (put_at page 0 xs) (put_is page ys part) ∙ put_is page xs (record { bytes = with_items_at 0 ys part.bytes; health = fine_front page (length ys) part.health })
+    ap (put_at page 0 xs) (put_is page ys part) ∙ put_is page xs (record { bytes = with_items_at 0 ys part.bytes; health = fine_front page (length ys) part.health; marked = part.marked })
     ∙ same_image _ _ _ _ (items_over xs ys part.bytes few)
     (pages_over page (length xs) (length ys) part.health some few whole every ∙ ap (λ k. fine_front page k part.health) (sym size))
     ∙ sym (put_is page (xs ++ drop (length xs) ys) part)

@@ -126,7 +126,9 @@ board_layout : layout_from board None (in_place_of 1048576) ≡ Ok (record {
   storage = Stride 64;
   geometry = in_place_of 1048576;
   region = board_region;
+  skip_bad = false;
   copies = 3;
+  places = [];
   area_len = 20;
   vars = board_vars;
 })
@@ -182,6 +184,25 @@ other_key = refl
 
 stride_of_zero : refused (tree (stride 0 ∷ good) [] (partition 0 96)) small ≡ Err (BadProp (codes "backend-stridesize"))
 stride_of_zero = refl
+
+-- an empty property, on a device with blocks alone
+abbrev skip_bad : List ℕ → Value
+skip_bad value = (codes "bb,skip-bad", value)
+
+abbrev skips : List Value → Option Bool
+skips props = option_map (λ l. l.skip_bad) (result_ok (refused (tree props [] (partition 128 384)) blocks))
+
+skip_bad_in_place : refused (tree (skip_bad [] ∷ good) [] (partition 0 96)) small ≡ Err (BadProp (codes "bb,skip-bad"))
+skip_bad_in_place = refl
+
+skip_bad_of_a_text : refused (tree (skip_bad (text (codes "on")) ∷ good) [] (partition 128 384)) blocks ≡ Err (BadProp (codes "bb,skip-bad"))
+skip_bad_of_a_text = refl
+
+skip_bad_in_blocks : skips (skip_bad [] ∷ good) ≡ Some true
+skip_bad_in_blocks = refl
+
+no_skip_bad : skips good ≡ Some false
+no_skip_bad = refl
 
 backend_by_name : refused (tree (compatible ∷ magic ∷ raw ∷ (codes "backend", text (codes "partition")) ∷ []) [] (partition 0 96)) small ≡ Err (BadProp (codes "backend"))
 backend_by_name = refl

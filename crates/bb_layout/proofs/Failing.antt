@@ -12,7 +12,7 @@ use Rattle.bb_layout.specs.Copies.{copies_of, room_for, spacing}
 use Rattle.bb_layout.specs.Fields.{cell_of, string_of, utf8_strings, two_cells_of}
 use Rattle.bb_layout.specs.Ranges.{area_len_of, greatest_end, has_same_name, shares_byte, some_pair}
 use Rattle.bb_layout.specs.Results.{all_ok, option_filter, result_and_then}
-use Rattle.bb_layout.specs.StateProps.{circular_in, format_named, is_circular_of, format_by_algo, magic_of, required_prop, props_of, some_cell, stride_of, type_in}
+use Rattle.bb_layout.specs.StateProps.{circular_in, format_named, is_circular_of, format_by_algo, magic_of, required_prop, props_of, skip_bad_of, skip_in, some_cell, stride_of, type_in}
 use Rattle.bb_layout.specs.StateProps
 use Rattle.bb_layout.specs.Steps.{result_then}
 use Rattle.bb_layout.specs.Storage.{check_room, is_aligned, check_place}
@@ -132,13 +132,21 @@ module _ (b : Branch (List ℕ)) where
       (λ v. fails_map_or (λ n. Ok (Some n)) (some_cell v) bad (λ n. fails_ok (Some n)) (fails_err (BadProp (codes "backend-stridesize")) refl))
       (fails_ok None)
 
-  pub fails_props : Fails of_props (props_of b)
-  fails_props =
+  fails_skip : (geometry : Geometry) → Fails of_props (skip_bad_of geometry b)
+  fails_skip geometry =
+      let bad = BadProp (codes "bb,skip-bad") in
+      fails_map_or (λ v. ok_or (skip_in geometry v) bad) (prop_of (codes "bb,skip-bad") b) (Ok false)
+      (λ v. fails_or (skip_in geometry v) bad refl) (fails_ok false)
+
+  pub fails_props : (geometry : Geometry) → Fails of_props (props_of geometry b)
+  fails_props geometry =
       fails_then (magic_of b) _ fails_magic (λ magic.
       fails_then (StateProps.backend_type b) _ fails_type (λ type.
       fails_then (format_named b type) _ (fails_format type) (λ format.
       fails_then (is_circular_of b) _ fails_circular (λ is_circular.
-      fails_then (stride_of b) _ fails_stride (λ stride. fails_ok (record { magic = magic; format = format; is_circular = is_circular; stride = stride }))))))
+      fails_then (stride_of b) _ fails_stride (λ stride.
+      fails_then (skip_bad_of geometry b) _ (fails_skip geometry) (λ skip_bad.
+      fails_ok (record { magic = magic; format = format; is_circular = is_circular; stride = stride; skip_bad = skip_bad })))))))
 
 fails_range : (type : VarType) (value : Option (List ℕ)) → Fails of_vars (range_in_area type value)
 fails_range type None = fails_err (Missing (codes "reg")) refl

@@ -73,7 +73,9 @@ module _ (question : Question) (state : List ℕ × Branch (List ℕ)) where
     storage = storage;
     geometry = question.geometry;
     region = region;
+    skip_bad = props.skip_bad;
     copies = copies_of question.geometry storage region;
+    places = [];
     area_len = area_len;
     vars = vars;
   }
@@ -130,7 +132,7 @@ module _ (question : Question) (state : List ℕ × Branch (List ℕ)) where
 module _ (question : Question) where
   abbrev last_by : Result (List ℕ × Branch (List ℕ)) LayoutError → Result (Unit {0}) LayoutError
   last_by state =
-      let props = result_then state (λ s. props_of s.1) in
+      let props = result_then state (λ s. props_of question.geometry s.1) in
       let vars = result_then props (λ _. result_then state (λ s. variables_of s.1)) in
       let area = result_then vars area_len_of in
       let region = result_then area (λ _. result_then state (λ s. backend_of question.tree s.1)) in
@@ -145,7 +147,7 @@ module _ (question : Question) where
   same_by : (state : Result (List ℕ × Branch (List ℕ)) LayoutError) →
       refusal_of (result_then state (λ s. layout_at question.tree s.0 s.1 question.geometry)) ≡ refusal_of (last_by state)
   same_by (Err e) = refl
-  same_by (Ok s) = same_from_props question s (props_of s.1) (variables_of s.1) (backend_of question.tree s.1)
+  same_by (Ok s) = same_from_props question s (props_of question.geometry s.1) (variables_of s.1) (backend_of question.tree s.1)
 
   last_refuses : refusal_of (layout_answer question) ≡ refusal_of (room_step question)
   last_refuses = same_by (state_step question)
@@ -275,7 +277,7 @@ module _ (question : Question) where
   state_fails = fails_or (state_of question.tree question.name) NoState refl
 
   props_fail : IsOk (state_step question) → Fails of_props (props_step question)
-  props_fail is = past (state_step question) _ is (λ s. fails_props s.1)
+  props_fail is = past (state_step question) _ is (λ s. fails_props s.1 question.geometry)
 
   vars_fail : IsOk (props_step question) → Fails of_vars (vars_step question)
   vars_fail is =

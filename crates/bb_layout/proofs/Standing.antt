@@ -1,5 +1,5 @@
 -- Copies that fit stand in their partition, one after another.
-use Rattle.std.proofs.Common.{◌≡◌, ℕ, ◌+◌, ◌-◌, ◌*◌, ◌/◌, ◌%◌, ◌<◌, ◌≤◌, Bool, true, false, ◌||◌, ◌&&◌, not, Result, Ok, Err, refl, sym, ap, ◌∙◌, arith}
+use Rattle.std.proofs.Common.{◌≡◌, ℕ, ◌+◌, ◌-◌, ◌*◌, ◌/◌, ◌%◌, ◌<◌, ◌≤◌, Bool, true, false, ◌||◌, ◌&&◌, not, List, [], Result, Ok, Err, refl, sym, ap, ◌∙◌, arith}
 use Rattle.std.specs.Prelude.{◌==◌, if◌then◌else◌, nat_lt}
 use Rattle.std.specs.Int.{next_multiple_of}
 use Rattle.std.proofs.Math.Nat.{add-mul-mod_self_right, div-mul-le_self, mod-lt, mod_self, mul-le-mul_left}
@@ -9,6 +9,8 @@ use Rattle.bb_flash.specs.declared.geometry.Geometry.{Geometry}
 use Rattle.bb_flash.specs.declared.region.Region.{Region}
 use Rattle.bb_layout.specs.Copies.{copies_of, region_of, room_for, spacing}
 use Rattle.bb_layout.specs.Facts.{EndsBefore, HasCopies, IsAligned, IsWithin, is_stride}
+use Rattle.bb_layout.specs.Kept.{IsLaid}
+use Rattle.bb_layout.specs.Layout.{ArePlaces, Laid, standing_at}
 use Rattle.bb_layout.specs.Storage.{check_room, is_aligned, check_place, storage_of}
 use Rattle.bb_layout.specs.declared.layout_error.LayoutError.{LayoutError}
 use Rattle.bb_layout.specs.declared.layout_error.LayoutError.TheVariants.{OutOfDevice, TooSmall, Unaligned}
@@ -76,7 +78,7 @@ chosen false false stride = refl
 
 -- ---- regions
 
-spacing_is : (geometry : Geometry) (storage : Storage) → is_stride storage ≡ (geometry.block == 0) → 0 < geometry.block → spacing geometry storage ≡ geometry.block
+pub spacing_is : (geometry : Geometry) (storage : Storage) → is_stride storage ≡ (geometry.block == 0) → 0 < geometry.block → spacing geometry storage ≡ geometry.block
 spacing_is geometry (Stride stride) strides some = let none : geometry.block ≡ 0 = eqb-true geometry.block 0 (sym strides) in absurd (omega (arith, none, some))
 spacing_is geometry OneBlock strides some = refl
 spacing_is geometry Circular strides some = refl
@@ -97,6 +99,16 @@ module _ (geometry : Geometry) (storage : Storage) (partition : Region) where
       let all : count * size ≤ partition.size = div-mul-le_self partition.size size in
       record { from = omega arith; to = omega (arith, more, all) }
 
+  -- each place of the partition lies in it
+  pub within_place : (place : ℕ) → place < partition.size / spacing geometry storage → IsWithin partition (region_of geometry storage partition place)
+  within_place place below =
+      let size = spacing geometry storage in
+      let count = partition.size / size in
+      let fits : place + 1 ≤ count = omega arith in
+      let more : size * (place + 1) ≤ size * count = mul-le-mul_left size fits in
+      let all : count * size ≤ partition.size = div-mul-le_self partition.size size in
+      record { from = omega arith; to = omega (arith, more, all) }
+
   aligned : is_stride storage ≡ (geometry.block == 0) → IsAligned geometry partition → (copy : ℕ) → IsAligned geometry (region_of geometry storage partition copy)
   aligned strides whole copy = record {
     at = λ some.
@@ -107,7 +119,7 @@ module _ (geometry : Geometry) (storage : Storage) (partition : Region) where
 
   -- copies that fit into a partition on the device
   pub have_copies : (len : ℕ) → is_stride storage ≡ (geometry.block == 0) → partition.at + partition.size ≤ geometry.size → IsAligned geometry partition →
-      check_room geometry storage partition len ≡ Ok tt → HasCopies geometry partition storage (copies_of geometry storage partition) len
+      check_room geometry storage partition len ≡ Ok tt → HasCopies geometry partition storage (copies_of geometry storage partition) [] len
   have_copies len strides on_device whole fit =
       let enough = neither (nat_lt (copies_of geometry storage partition) 2) _ (loose _ fit) in
       let few = enough.0 in
@@ -119,6 +131,7 @@ module _ (geometry : Geometry) (storage : Storage) (partition : Region) where
         least = grind (arith, nat_tests);
         most = grind (arith);
         inside = within;
+        rising = λ first second before below. before;
         aligned = aligned strides whole;
         apart = ends_before;
         room = grind (arith, nat_tests);
@@ -127,7 +140,7 @@ module _ (geometry : Geometry) (storage : Storage) (partition : Region) where
 -- the copies of a partition that passed the checks
 pub stored_copies : (geometry : Geometry) (partition : Region) (props : Props) (len : ℕ) → check_place geometry partition ≡ Ok tt →
     check_room geometry (storage_of geometry partition props) partition len ≡ Ok tt →
-    HasCopies geometry partition (storage_of geometry partition props) (copies_of geometry (storage_of geometry partition props) partition) len
+    HasCopies geometry partition (storage_of geometry partition props) (copies_of geometry (storage_of geometry partition props) partition) [] len
 stored_copies geometry partition props len is fit =
     let good = in_place (is_aligned geometry partition) _ is in
     let past = good.1 in
@@ -135,3 +148,26 @@ stored_copies geometry partition props len is fit =
     (chosen (geometry.block == 0) props.is_circular _)
     (grind (arith, nat_tests))
     (whole_blocks geometry partition good.0) fit
+
+-- copies that stand in such places of the partition
+pub laid_at_places : (layout : Laid) (places : List ℕ) → IsLaid layout → ArePlaces layout places →
+    IsLaid (standing_at places layout)
+laid_at_places layout places facts are =
+    let had = facts.copied in
+    record {
+      geometry_is = facts.geometry_is;
+      copied = record {
+        strides = had.strides;
+        on_device = had.on_device;
+        whole_blocks = had.whole_blocks;
+        least = are.least;
+        most = are.most;
+        inside = are.inside;
+        rising = are.rising;
+        aligned = had.aligned;
+        apart = had.apart;
+        room = had.room;
+      };
+      area_most = facts.area_most;
+      vars_are = facts.vars_are;
+    }

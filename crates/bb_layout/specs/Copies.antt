@@ -1,6 +1,6 @@
 -- Where copies stand in a partition, one after the other, two or three of them, and the room that
 -- a record takes there (barebox User Manual, State Framework).
-use Rattle.std.specs.Prelude.{ℕ, ◌+◌, ◌*◌, ◌/◌, min}
+use Rattle.std.specs.Prelude.{ℕ, ◌+◌, ◌*◌, ◌/◌, List, min, slice_get, unwrap_or}
 use Rattle.std.specs.Int.{next_multiple_of}
 use Rattle.bb_base.specs.Form.{most_copies}
 use Rattle.bb_bucket.specs.Front.{stride_header_len}
@@ -19,6 +19,11 @@ spacing geometry Circular = geometry.block
 abbrev pub region_of : Geometry → Storage → Region → ℕ → Region
 region_of geometry storage partition copy =
     record { at = partition.at + copy * spacing geometry storage; size = spacing geometry storage }
+
+-- the place of a copy in its partition, counted in regions of copies: the one that is said, or else
+-- the copy's number
+abbrev pub copy_place : List ℕ → ℕ → ℕ
+copy_place places copy = unwrap_or (slice_get places copy) copy
 
 -- how many copies there are: as many as fit, at most three
 abbrev pub copies_of : Geometry → Storage → Region → ℕ

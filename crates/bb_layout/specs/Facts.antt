@@ -3,7 +3,7 @@ use Rattle.std.specs.Prelude.{◌≡◌, ◌≢◌, ℕ, ◌+◌, ◌%◌, ◌<�
 use Rattle.bb_flash.specs.Geometry.{IsGeometry}
 use Rattle.bb_flash.specs.declared.geometry.Geometry.{Geometry}
 use Rattle.bb_flash.specs.declared.region.Region.{Region}
-use Rattle.bb_layout.specs.Copies.{region_of, room_for, spacing}
+use Rattle.bb_layout.specs.Copies.{copy_place, region_of, room_for, spacing}
 use Rattle.bb_layout.specs.declared.storage.Storage.{Storage}
 use Rattle.bb_layout.specs.declared.storage.Storage.TheVariants.{Stride, OneBlock, Circular}
 use Rattle.bb_layout.specs.declared.var.Var.{Var}
@@ -53,24 +53,31 @@ is_stride (Stride stride) = true
 is_stride OneBlock = false
 is_stride Circular = false
 
--- copies in a partition of a device, with records of that length: each has a region in the
--- partition, with room for its record, and no two of them share a byte. They stand in strides
--- exactly on a device without blocks, and in whole blocks on every other.
-pub record HasCopies (geometry : Geometry) (partition : Region) (storage : Storage) (copies len : ℕ) : Type 0 where
+-- copies at these places of a partition of a device, with records of that length: each has a region
+-- in the partition, with room for its record, and no two of them share a byte. They stand in rising
+-- order, in strides exactly on a device without blocks, and in whole blocks on every other.
+pub record HasCopies
+    (geometry : Geometry) (partition : Region) (storage : Storage) (copies : ℕ)
+    (places : List ℕ) (len : ℕ) : Type 0 where
   pub strides : is_stride storage ≡ (geometry.block == 0)
   pub on_device : partition.at + partition.size ≤ geometry.size
   pub whole_blocks : IsAligned geometry partition
   pub least : 2 ≤ copies
   pub most : copies ≤ most_copies
-  pub inside : (copy : ℕ) → copy < copies → IsWithin partition (region_of geometry storage partition copy)
+  pub inside : (copy : ℕ) → copy < copies
+      → IsWithin partition (region_of geometry storage partition (copy_place places copy))
+  pub rising : (first second : ℕ) → first < second → second < copies
+      → copy_place places first < copy_place places second
   pub aligned : (copy : ℕ) → IsAligned geometry (region_of geometry storage partition copy)
   pub apart : (first second : ℕ) → first < second
       → EndsBefore (region_of geometry storage partition first) (region_of geometry storage partition second)
   pub room : room_for geometry storage len ≤ spacing geometry storage
 
 -- a layout with records of that length
-pub record IsLayout (geometry : Geometry) (partition : Region) (storage : Storage) (copies len area_len : ℕ) (vars : List Var) : Type 0 where
+pub record IsLayout
+    (geometry : Geometry) (partition : Region) (storage : Storage) (copies : ℕ)
+    (places : List ℕ) (len area_len : ℕ) (vars : List Var) : Type 0 where
   pub geometry_is : IsGeometry geometry
-  pub copied : HasCopies geometry partition storage copies len
+  pub copied : HasCopies geometry partition storage copies places len
   pub area_most : area_len ≤ area_limit
   pub vars_are : AreVars area_len vars

@@ -12,4 +12,6 @@ pub record SameFamily (one other : Laid) : Type 0 where
   pub geometry : one.geometry ≡ other.geometry
   pub region : one.region ≡ other.region
   pub copies : one.copies ≡ other.copies
+  pub skip_bad : one.skip_bad ≡ other.skip_bad
+  pub places : one.places ≡ other.places
   pub blobs : one.format ≡ Dtb → one ≡ other

@@ -1,11 +1,13 @@
 -- The layout that a devicetree gives, or the first refusal (devicetree binding `barebox,state`;
 -- barebox User Manual, State Framework).
-use Rattle.std.specs.Prelude.{ℕ, List, Option, Result, Ok, ok_or}
+use Rattle.std.specs.Prelude.{ℕ, ◌≤◌, ◌<◌, Bool, [], List, length, Option, Result, Ok, ok_or}
 use Rattle.bb_flash.specs.declared.geometry.Geometry.{Geometry}
 use Rattle.bb_flash.specs.declared.region.Region.{Region}
 use Rattle.bb_tree.specs.Node.{Branch}
 use Rattle.bb_layout.specs.Backend.{backend_of}
-use Rattle.bb_layout.specs.Copies.{copies_of}
+use Rattle.bb_base.specs.Form.{most_copies}
+use Rattle.bb_layout.specs.Copies.{copies_of, copy_place, region_of}
+use Rattle.bb_layout.specs.Facts.{IsWithin}
 use Rattle.bb_layout.specs.Formats.{record_len}
 use Rattle.bb_layout.specs.Ranges.{area_len_of}
 use Rattle.bb_layout.specs.Record.{Recorded}
@@ -31,7 +33,10 @@ pub record Laid : Type 0 where
   pub storage : Storage
   pub geometry : Geometry
   pub region : Region
+  pub skip_bad : Bool
   pub copies : ℕ
+  -- where they stand in the region, or none where they stand at its start
+  pub places : List ℕ
   pub area_len : ℕ
   pub vars : List Var
 
@@ -44,7 +49,9 @@ fields_of l = record {
   storage = l.storage;
   geometry = l.geometry;
   region = l.region;
+  skip_bad = l.skip_bad;
   copies = l.copies;
+  places = l.places;
   area_len = l.area_len;
   vars = l.vars;
 }
@@ -65,7 +72,7 @@ len_of state props vars area_len =
 -- the layout of a state node, by a name
 abbrev pub layout_at : Branch (List ℕ) → List ℕ → Branch (List ℕ) → Geometry → Result Laid LayoutError
 layout_at tree name state geometry =
-    result_then (props_of state) (λ props.
+    result_then (props_of geometry state) (λ props.
     result_then (variables_of state) (λ vars.
     result_then (area_len_of vars) (λ area_len.
     result_then (backend_of tree state) (λ region.
@@ -78,10 +85,25 @@ layout_at tree name state geometry =
       storage = storage;
       geometry = geometry;
       region = region;
+      skip_bad = props.skip_bad;
       copies = copies_of geometry storage region;
+      places = [];
       area_len = area_len;
       vars = vars;
     }))))))
+
+-- the layout with as many copies as places, each at one of these
+abbrev pub standing_at : List ℕ → Laid → Laid
+standing_at places layout = record layout { copies = length places; places = places }
+
+-- two or three places of the layout's partition, in rising order
+pub record ArePlaces (layout : Laid) (places : List ℕ) : Type 0 where
+  pub least : 2 ≤ length places
+  pub most : length places ≤ most_copies
+  pub inside : (copy : ℕ) → copy < length places → IsWithin layout.region
+      (region_of layout.geometry layout.storage layout.region (copy_place places copy))
+  pub rising : (first second : ℕ) → first < second → second < length places
+      → copy_place places first < copy_place places second
 
 -- the layout that a tree gives for a device, by the name that is asked for, if there is one
 abbrev pub layout_from : Branch (List ℕ) → Option (List ℕ) → Geometry → Result Laid LayoutError

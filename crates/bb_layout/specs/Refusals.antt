@@ -59,7 +59,7 @@ abbrev pub state_step : Question → Result (List ℕ × Branch (List ℕ)) Layo
 state_step question = ok_or (state_of question.tree question.name) NoState
 
 abbrev pub props_step : Question → Result Props LayoutError
-props_step question = result_then (state_step question) (λ state. props_of state.1)
+props_step question = result_then (state_step question) (λ state. props_of question.geometry state.1)
 
 abbrev pub vars_step : Question → Result (List Var) LayoutError
 vars_step question =

@@ -1,8 +1,9 @@
 -- The properties of the state node itself, in the order in which they are looked at (devicetree
 -- binding `barebox,state`; barebox User Manual, State Framework).
-use Rattle.std.specs.Prelude.{ℕ, Bool, true, false, ◌||◌, ◌∷◌, [], ◌++◌, List, Option, Some, None, Result, Ok, Err, if◌then◌else◌, codes, nat_lt, ok_or, option_and_then}
+use Rattle.std.specs.Prelude.{ℕ, Bool, true, false, ◌||◌, ◌&&◌, ◌==◌, ◌∷◌, [], ◌++◌, List, Option, Some, None, Result, Ok, Err, if◌then◌else◌, codes, length, nat_lt, ok_or, option_and_then}
 use Rattle.std.specs.Option.{option_map_or}
 use Rattle.std.specs.Str.{bytes_eq}
+use Rattle.bb_flash.specs.declared.geometry.Geometry.{Geometry}
 use Rattle.bb_tree.specs.Node.{Branch}
 use Rattle.bb_tree.specs.Paths.{prop_of}
 use Rattle.bb_layout.specs.Fields.{cell_of}
@@ -68,11 +69,22 @@ stride_of b =
     option_map_or (λ value. option_map_or (λ n. Ok (Some n)) (some_cell value) (Err (BadProp (codes "backend-stridesize"))))
     (prop_of (codes "backend-stridesize") b) (Ok None)
 
-abbrev pub props_of : Branch (List ℕ) → Result Props LayoutError
-props_of b =
+-- `bb,skip-bad` is empty, and stands only where the device has blocks
+abbrev pub skip_in : Geometry → List ℕ → Option Bool
+skip_in geometry value = if length value == 0 && nat_lt 0 geometry.block then Some true else None
+
+-- whether copies stand in good blocks alone
+abbrev pub skip_bad_of : Geometry → Branch (List ℕ) → Result Bool LayoutError
+skip_bad_of geometry b =
+    option_map_or (λ value. ok_or (skip_in geometry value) (BadProp (codes "bb,skip-bad")))
+    (prop_of (codes "bb,skip-bad") b) (Ok false)
+
+abbrev pub props_of : Geometry → Branch (List ℕ) → Result Props LayoutError
+props_of geometry b =
     result_then (magic_of b) (λ magic.
     result_then (backend_type b) (λ type.
     result_then (format_named b type) (λ format.
     result_then (is_circular_of b) (λ is_circular.
     result_then (stride_of b) (λ stride.
-    Ok (record { magic = magic; format = format; is_circular = is_circular; stride = stride }))))))
+    result_then (skip_bad_of geometry b) (λ skip_bad.
+    Ok (record { magic = magic; format = format; is_circular = is_circular; stride = stride; skip_bad = skip_bad })))))))

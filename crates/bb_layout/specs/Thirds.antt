@@ -1,5 +1,5 @@
 -- The layout of raw records: three copies in the thirds of a device that is overwritten in place.
-use Rattle.std.specs.Prelude.{ℕ, ◌/◌, ◌==◌, [], Result, Ok, Err, if◌then◌else◌, codes}
+use Rattle.std.specs.Prelude.{ℕ, ◌/◌, ◌==◌, false, [], Result, Ok, Err, if◌then◌else◌, codes}
 use Rattle.bb_flash.specs.declared.geometry.Geometry.{Geometry}
 use Rattle.bb_flash.specs.declared.region.Region.{Region}
 use Rattle.bb_layout.specs.Copies.{copies_of}
@@ -29,7 +29,9 @@ laid_thirds magic area_len geometry = record {
   storage = thirds_of geometry;
   geometry = geometry;
   region = whole_device geometry;
+  skip_bad = false;
   copies = copies_of geometry (thirds_of geometry) (whole_device geometry);
+  places = [];
   area_len = area_len;
   vars = [];
 }

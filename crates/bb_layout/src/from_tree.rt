@@ -1,4 +1,4 @@
-ghost use Rattle.std.specs.Prelude.{◌≡◌, ◌≤◌, All, Ok, IfOk, IfErr, List, ℕ};
+ghost use Rattle.std.specs.Prelude.{◌≡◌, ◌≤◌, [], All, Ok, IfOk, IfErr, List, ℕ};
 ghost use Rattle.bb_flash.specs.Geometry.{IsGeometry};
 ghost use Rattle.bb_tree.specs.NodeViews.{branch_of};
 ghost use Rattle.bb_layout.specs.Copies.{copies_of};
@@ -33,7 +33,7 @@ use crate::state_node::{first_wanted, node_by_alias};
 use crate::state_props::{Props, state_props};
 use crate::variables::variables;
 use crate::{Layout, LayoutError, Storage, VarList};
-use bb_base::Text;
+use bb_base::{List, Text};
 use bb_flash::{Geometry, Region};
 use bb_tree::{Node, Tree};
 use std::alloc::Global;
@@ -118,7 +118,7 @@ fn layout_at(
     ensures refused { IfErr result (Refuses
         (layout_at (branch_of tree.now.root) name.now (branch_of state.now) geometry)) }
 {
-    let props = state_props(alloc, state)?;
+    let props = state_props(alloc, state, geometry)?;
     let vars = variables(alloc, state)?;
     let area_len = area_len(alloc, &vars)?;
     let region = backend(alloc, tree, state)?;
@@ -131,7 +131,9 @@ fn layout_at(
         storage,
         geometry,
         region,
+        skip_bad: props.skip_bad,
         copies: copies(geometry, storage, region),
+        places: List::none(alloc),
         area_len,
         vars,
     })
@@ -153,7 +155,7 @@ fn storage(
     ensures gives { StepGives (storage_in geometry region props
         (len_of (branch_of state.now) props vars.now area_len)) result }
     ensures copies { IfOk result (λ storage. HasCopies geometry region storage
-        (copies_of geometry storage region)
+        (copies_of geometry storage region) []
         (len_of (branch_of state.now) props vars.now area_len)) }
 {
     let len = record_len(alloc, props, &state.name, vars, area_len)?;

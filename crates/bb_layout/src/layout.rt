@@ -1,4 +1,6 @@
 ghost use Rattle.bb_layout.specs.Facts.{HasFewNames-prop, IsLayout};
+ghost use Rattle.std.specs.Prelude.{◌≡◌, ◌≤◌, IfOk, length};
+ghost use Rattle.bb_base.specs.Form.{most_copies};
 ghost use Rattle.bb_layout.specs.Formats.{record_len};
 ghost use Rattle.std.proofs.Props.{props};
 
@@ -7,7 +9,7 @@ use crate::defaults::fill_defaults;
 use crate::placing::spacing;
 use crate::record_tree::record_tree;
 use crate::{FormatKind, Storage, VarList};
-use bb_base::{NoMemory, Text};
+use bb_base::{List, NoMemory, Text};
 use bb_flash::{Geometry, Region};
 use bb_tree::Tree;
 use std::alloc::Global;
@@ -30,13 +32,18 @@ pub struct Layout {
     pub geometry: Geometry,
     /// The partition that holds the copies.
     pub region: Region,
+    /// Whether the copies stand in the first good blocks of the partition.
+    pub skip_bad: bool,
     /// How many copies there are, 2 or 3.
     pub copies: u32,
+    /// Where they stand in the partition, counted in blocks and in rising order. None where they
+    /// stand in its first ones.
+    pub places: List<u32>,
     /// How many bytes the area has, at most 65,535.
     pub area_len: u32,
     /// The variables, in the order of the devicetree.
     pub vars: VarList,
-    pub ghost facts: { IsLayout geometry region storage copies
+    pub ghost facts: { IsLayout geometry region storage copies places
         (record_len format (record { node = node; magic = magic; vars = vars }) area_len)
         area_len vars } by { Prim.hlevel (props, HasFewNames-prop) },
 }
@@ -45,17 +52,19 @@ impl Layout {
     ghost use Rattle.std.specs.Prelude.{◌≡◌, ◌≤◌, ◌<◌, [], IfOk, length};
     ghost use Rattle.bb_tree.specs.NodeViews.{branch_of};
     ghost use Rattle.bb_layout.specs.Convert.{convert_of};
-    ghost use Rattle.bb_layout.specs.Copies.{region_of, room_for};
+    ghost use Rattle.bb_layout.specs.Copies.{copy_place, region_of, room_for};
     ghost use Rattle.bb_layout.specs.Defaults.{defaults_of};
     ghost use Rattle.bb_layout.specs.Facts.{IsAligned, IsWithin};
-    ghost use Rattle.bb_layout.specs.Layout.{fields_of, laid_len, recorded_of};
+    ghost use Rattle.bb_layout.specs.Layout.{fields_of, laid_len, recorded_of, standing_at};
+    ghost use Rattle.bb_layout.specs.Layout.{ArePlaces};
     ghost use Rattle.bb_layout.specs.Record.{record_tree_of};
     ghost use Rattle.bb_layout.specs.VarNames.{place_of_var};
 
     /// Where a copy stands, counted from 0.
     pub fn region(&self, copy: u32) -> Region
         requires { copy < self.now.copies }
-        ensures value { result ≡ region_of self.now.geometry self.now.storage self.now.region copy }
+        ensures value { result ≡ region_of self.now.geometry self.now.storage self.now.region
+            (copy_place self.now.places copy) }
         ensures within { IsWithin self.now.region result }
         ensures aligned { IsAligned self.now.geometry result }
         ensures room { room_for self.now.geometry self.now.storage (laid_len (fields_of self.now))
@@ -63,9 +72,56 @@ impl Layout {
     {
         let size = spacing(self.geometry, self.storage);
         Region {
-            at: self.region.at + copy * size,
+            at: self.region.at + self.place(copy) * size,
             size,
         }
+    }
+
+    // The place of a copy in the partition.
+    fn place(&self, copy: u32) -> u32
+        ensures { result ≡ copy_place self.now.places copy }
+    {
+        match self.places.get(copy as usize) {
+            Some(place) => *place,
+            None => copy,
+        }
+    }
+
+    /// The layout with as many copies as places, each at one of these.
+    pub fn standing_at(alloc: Global, layout: Layout, places: &[u32]) -> Result<Layout, NoMemory>
+        requires { ArePlaces (fields_of layout) places.now }
+        ensures { IfOk result (λ standing.
+            fields_of standing ≡ standing_at places.now (fields_of layout)) }
+    {
+        let copies = count(places);
+        let listed = listed(alloc, places)?;
+        let Layout {
+            name,
+            node,
+            magic,
+            format,
+            storage,
+            geometry,
+            region,
+            skip_bad,
+            area_len,
+            vars,
+            ..
+        } = layout;
+        Ok(Layout {
+            name,
+            node,
+            magic,
+            format,
+            storage,
+            geometry,
+            region,
+            skip_bad,
+            copies,
+            places: listed,
+            area_len,
+            vars,
+        })
     }
 
     /// The place of the variable of that name in `vars`.
@@ -110,4 +166,21 @@ impl Layout {
     {
         record_tree(alloc, &layout.node, layout.magic, &layout.vars, area)
     }
+}
+
+fn count(places: &[u32]) -> u32
+    requires { length places.now ≤ most_copies }
+    ensures { result ≡ length places.now }
+{
+    places.len() as u32
+}
+
+fn listed(alloc: Global, places: &[u32]) -> Result<List<u32>, NoMemory>
+    ensures { IfOk result (λ list. list ≡ places.now) }
+{
+    let mut list = List::none(alloc);
+    for place in places {
+        list.push(*place)?;
+    }
+    Ok(list)
 }

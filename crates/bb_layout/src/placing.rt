@@ -1,4 +1,4 @@
-ghost use Rattle.std.specs.Prelude.{◌≡◌, ◌<◌, ◌^◌, IfOk, ℕ, nat_le};
+ghost use Rattle.std.specs.Prelude.{◌≡◌, ◌<◌, ◌^◌, [], IfOk, ℕ, nat_le};
 ghost use Rattle.bb_flash.specs.Geometry.{IsGeometry};
 ghost use Rattle.bb_tree.specs.Blob.{length_in_64_bits};
 ghost use Rattle.bb_layout.specs.Copies as copy;
@@ -25,7 +25,7 @@ pub(crate) fn storage_in(
         result ≡ spec.storage_in geometry partition props full }
     ensures copies { (full : ℕ) → len ≡ length_in_64_bits full →
         IfOk result (λ storage. HasCopies geometry partition storage
-        (copy.copies_of geometry storage partition) full) }
+        (copy.copies_of geometry storage partition) [] full) }
 {
     check_place(geometry, partition)?;
     let storage = storage_for(geometry, partition, props);

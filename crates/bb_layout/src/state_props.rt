@@ -5,6 +5,7 @@ ghost use Rattle.bb_layout.specs.Steps.{StepGives, result_copied};
 
 use crate::fields::cell;
 use crate::{FormatKind, LayoutError};
+use bb_flash::Geometry;
 use bb_tree::Node;
 use std::alloc::Global;
 
@@ -19,23 +20,31 @@ pub(crate) struct Props {
     pub is_circular: bool,
     /// How many bytes lie between the starts of two copies, if that is said.
     pub stride: Option<u32>,
+    /// Whether copies stand in good blocks alone.
+    pub skip_bad: bool,
 }
 
 /// Reads the properties of the state node itself, in order: `magic`, `backend-type`, `algo`,
-/// `backend-storage-type` and `backend-stridesize`.
-pub(crate) fn state_props(alloc: Global, state: &Node) -> Result<Props, LayoutError>
-    ensures { StepGives (spec.props_of (branch_of state.now)) result }
+/// `backend-storage-type`, `backend-stridesize` and `bb,skip-bad`.
+pub(crate) fn state_props(
+    alloc: Global,
+    state: &Node,
+    geometry: Geometry,
+) -> Result<Props, LayoutError>
+    ensures { StepGives (spec.props_of geometry (branch_of state.now)) result }
 {
     let magic = magic(alloc, state)?;
     let kind = record_type(alloc, state)?;
     let format = format_of(alloc, state, kind)?;
     let is_circular = is_circular(alloc, state)?;
     let stride = stride(alloc, state)?;
+    let skip_bad = skip_bad(alloc, state, geometry)?;
     Ok(Props {
         magic,
         format,
         is_circular,
         stride,
+        skip_bad,
     })
 }
 
@@ -139,4 +148,22 @@ fn stride(alloc: Global, state: &Node) -> Result<Option<u32>, LayoutError>
         Some(stride) if stride > 0 => Ok(Some(stride)),
         _ => Err(LayoutError::bad_prop(alloc, "backend-stridesize")),
     }
+}
+
+fn skip_bad(alloc: Global, state: &Node, geometry: Geometry) -> Result<bool, LayoutError>
+    ensures { StepGives (spec.skip_bad_of geometry (branch_of state.now)) result }
+{
+    let Some(value) = state.prop("bb,skip-bad") else {
+        return Ok(false);
+    };
+    match skip_in(geometry, value) {
+        Some(skips) => Ok(skips),
+        None => Err(LayoutError::bad_prop(alloc, "bb,skip-bad")),
+    }
+}
+
+fn skip_in(geometry: Geometry, value: &[u8]) -> Option<bool>
+    ensures { result ≡ spec.skip_in geometry value.now }
+{
+    (value.is_empty() && geometry.block > 0).then_some(true)
 }

@@ -9,7 +9,7 @@ ghost use Rattle.bb_layout.specs.Thirds.{raw_layout};
 use crate::placing::{check_room, copies};
 use crate::record_len::raw_len;
 use crate::{FormatKind, Layout, LayoutError, Storage, VarList};
-use bb_base::Text;
+use bb_base::{List, Text};
 use bb_flash::{Geometry, Region};
 use std::alloc::Global;
 
@@ -55,7 +55,9 @@ pub fn raw_layout(
         storage,
         geometry,
         region,
+        skip_bad: false,
         copies: copies(geometry, storage, region),
+        places: List::none(alloc),
         area_len,
         vars: VarList::none(alloc),
     })

@@ -123,7 +123,7 @@ IsLaidOn geometry layout = IsSized layout × (layout.geometry ≡ geometry)
 laid_at : (tree : Branch (List ℕ)) (name : List ℕ) (state : Branch (List ℕ)) (geometry : Geometry)
     (found : Laid) → layout_at tree name state geometry ≡ Ok found → IsLaidOn geometry found
 laid_at tree name state geometry found e =
-    let props = step_of (props_of state) _ found e in
+    let props = step_of (props_of geometry state) _ found e in
     let vars = step_of (variables_of state) _ found props.next_is in
     let area = step_of (area_len_of vars.value) _ found vars.next_is in
     let region = step_of (backend_of tree state) _ found area.next_is in

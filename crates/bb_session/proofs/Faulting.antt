@@ -21,9 +21,8 @@ use Rattle.bb_copies.proofs.Runs.{later_refl}
 use Rattle.bb_flash.specs.Cuts.{IsLater}
 use Rattle.bb_flash.specs.Device.{Device, content}
 use Rattle.bb_flash.specs.Image.{Image}
-use Rattle.bb_layout.specs.Layout.{laid_len}
 use Rattle.bb_state.specs.Keyed.{Keyed}
-use Rattle.bb_state.specs.Kinds.{any_holding, bucket_at, laid_buckets, laid_form, laid_kinds}
+use Rattle.bb_state.specs.Kinds.{any_holding, copy_bucket, laid_buckets, laid_form, laid_kinds, longest_len}
 use Rattle.bb_session.specs.Acting.{WorkAnswers}
 use Rattle.bb_plan.specs.Plan.{SessionPlan}
 use Rattle.bb_session.specs.Exactly.{last_area_of, saves_made}
@@ -51,7 +50,7 @@ rise_from rise first middle last more rose = omega arith
 pub copies_are : (keyed : Keyed) → length (laid_kinds keyed.layout) ≡ keyed.layout.copies
 copies_are keyed =
     length-map (laid_buckets keyed.layout) (λ bucket. (any_holding bucket).kind)
-    ∙ length-map (range_with_len 0 keyed.layout.copies) (bucket_at keyed.layout.geometry keyed.layout.storage keyed.layout.region (laid_len keyed.layout))
+    ∙ length-map (range_with_len 0 keyed.layout.copies) (copy_bucket keyed.layout (longest_len keyed.layout))
     ∙ length-range_with_len 0 keyed.layout.copies
 
 get_inside : {X : Type 0} → (xs : List X) (k : ℕ) → k < length xs → (x : X) × (slice_get xs k ≡ Some x)

@@ -28,13 +28,14 @@ entry =
     ++ codes "123456789"
 
 blank : Image
-blank = record { bytes = replicate 64 255; health = replicate 64 Fine }
+blank = record { bytes = replicate 64 255; health = replicate 64 Fine; marked = [] }
 
 -- a stride with that record, of which one page has this health
 stored : Health → Image
 stored health = record {
   bytes = entry ++ replicate 31 255;
   health = replicate 20 Fine ++ health ∷ replicate 43 Fine;
+  marked = [];
 }
 
 a_load_writes_a_blank_copy : loaded_region form kind (Some (codes "123456789")) blank ≡ stored Fine

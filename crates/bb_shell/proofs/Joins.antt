@@ -1,18 +1,20 @@
 -- What one step after another makes of a device.
-use Rattle.std.proofs.Common.{◌≡◌, ℕ, Bool, true, false, List, Option, Some, None, ap, refl, sym, subst, ◌∙◌}
+use Rattle.std.proofs.Common.{◌≡◌, ℕ, Bool, true, false, List, Option, Some, None, ap, arith, refl, sym, subst, ◌∙◌}
 use Rattle.std.proofs.lemmas.Bool.{false≢true}
 use Rattle.std.specs.Option.{ForSome, option_map}
 use Rattle.std.specs.Prelude.{is_some}
 use Rattle.bb_bucket.specs.Kind.{BucketKind}
 use Rattle.bb_copies.specs.Loading.{KeepsOutside}
+use Rattle.bb_copies.specs.Wearing.{WearsCopies}
 use Rattle.bb_copies.proofs.Runs.{same_images}
+use Rattle.bb_copies.proofs.Wearing.{copies_unchanged}
 use Rattle.bb_flash.proofs.Counting.{images_untouched}
 use Rattle.bb_flash.proofs.Moments.{images_same_joined, images_weaker}
 use Rattle.bb_flash.specs.Calls.{HasNoChange}
 use Rattle.bb_flash.specs.Cuts.{EachImage, IsLater, IsSameRegion}
 use Rattle.bb_flash.specs.Device.{Device, Told, changes, content}
 use Rattle.bb_state.specs.Keyed.{Keyed}
-use Rattle.bb_state.specs.Kinds.{laid_passings}
+use Rattle.bb_state.specs.Kinds.{laid_form, laid_kinds, laid_passings}
 use Rattle.bb_shell.specs.Ends.{HoldsKept, StaysStored}
 
 -- ---- what is told stays told
@@ -44,6 +46,10 @@ outside_joined kinds one two three first second before behind region apart =
     subst (λ g. EachImage (IsSameRegion g.page region.at region.size) two three) first.geometry (behind region apart) in
     images_same_joined page region.at region.size one two three first second (before region apart) again
 
+-- what is marked where nothing is called
+pub wears_refl : (keyed : Keyed) (device : Device) → WearsCopies (laid_form keyed) (laid_kinds keyed.layout) device device
+wears_refl keyed device = copies_unchanged (laid_form keyed) (laid_kinds keyed.layout) device device (same_images device) (λ more. absurd (omega (arith, more)))
+
 pub untouched : (from to : Device) → content to ≡ content from → changes to ≡ changes from → ForSome from.told (λ first. ForSome to.told (HasNoChange first))
 untouched from to same history first h last k = record {
   image = some_is _ _ (ap (option_map (λ (told : Told). told.image)) (sym k) ∙ same ∙ ap (option_map (λ (told : Told). told.image)) h);
@@ -53,6 +59,10 @@ untouched from to same history first h last k = record {
 -- a step that changes neither the content nor the list of changes
 pub still_outside : (kinds : List BucketKind) (from to : Device) → content to ≡ content from → changes to ≡ changes from → KeepsOutside kinds from to
 still_outside kinds from to same history = same_outside kinds from to (images_untouched from to (untouched from to same history))
+
+pub still_wears : (keyed : Keyed) (from to : Device) → content to ≡ content from → changes to ≡ changes from → to.faults ≡ from.faults → WearsCopies (laid_form keyed) (laid_kinds keyed.layout) from to
+still_wears keyed from to same history faults =
+    copies_unchanged (laid_form keyed) (laid_kinds keyed.layout) from to (images_untouched from to (untouched from to same history)) (λ more. absurd (omega (arith, more, faults)))
 
 -- ---- what the copies hold
 

@@ -6,6 +6,7 @@ use Rattle.std.specs.Option.{IfNone}
 use Rattle.std.specs.Prelude.{is_some}
 use Rattle.std.specs.Str.{bytes_eq}
 use Rattle.bb_copies.specs.Loading.{KeepsOutside}
+use Rattle.bb_copies.specs.Wearing.{WearsCopies}
 use Rattle.bb_copies.specs.Passing.{passings}
 use Rattle.bb_copies.specs.Saving.{IsSave, SaveFails, SaveRuns}
 use Rattle.bb_copies.specs.StandsFor.{EachPassesOrNothing}
@@ -23,7 +24,7 @@ use Rattle.bb_state.specs.Keyed.{Keyed}
 use Rattle.bb_state.specs.Kinds.{is_table, laid_form, laid_kinds}
 use Rattle.bb_state.specs.State.{IsStored, form_of, has_changed, is_kept, is_sure, last_table_of, keyed_of, kinds_of, laid_of, used_of}
 use Rattle.bb_state.specs.declared.state.State.{State}
-use Rattle.bb_shell.proofs.Joins.{outside_refl, stored_refl}
+use Rattle.bb_shell.proofs.Joins.{outside_refl, stored_refl, wears_refl}
 use Rattle.bb_shell.specs.Ends.{EndsByWriteFault, StaysStored}
 use Rattle.bb_shell.specs.Running.{IsBegun, IsSaveRun, same_as_kept}
 
@@ -105,6 +106,9 @@ module _ (keyed : Keyed) (kept : Option (List ℕ)) (used now : Option ℕ) (tab
 
   pub save_outside : KeepsOutside (laid_kinds keyed.layout) from to
   save_outside = by_same (KeepsOutside (laid_kinds keyed.layout) from) (outside_refl (laid_kinds keyed.layout) from) (λ runs. runs.outside)
+
+  pub save_wears : WearsCopies (laid_form keyed) (laid_kinds keyed.layout) from to
+  save_wears = by_same (WearsCopies (laid_form keyed) (laid_kinds keyed.layout) from) (wears_refl keyed from) (λ runs. runs.wears)
 
   pub save_starts : LeavesStarts from to
   save_starts = by_same (LeavesStarts from) (record { starts = refl; start_faults = refl }) (λ runs. runs.starts)

@@ -5,16 +5,18 @@ use Rattle.std.proofs.lemmas.List.Sums.{sum_by-cons}
 use Rattle.std.specs.Prelude.{MatchBool, is_some}
 use Rattle.bb_chooser.specs.Binding.{Binding}
 use Rattle.bb_copies.specs.Loading.{KeepsOutside}
+use Rattle.bb_copies.specs.Wearing.{WearsCopies}
+use Rattle.bb_copies.proofs.Wearing.{copies_joined}
 use Rattle.bb_copies.specs.declared.answers.CopyFault.{CopyFault}
 use Rattle.bb_flash.specs.Device.{Device, starts}
 use Rattle.bb_flash.specs.declared.plan.Plan.{Plan}
 use Rattle.bb_state.specs.Keyed.{Keyed}
-use Rattle.bb_state.specs.Kinds.{laid_kinds}
+use Rattle.bb_state.specs.Kinds.{laid_form, laid_kinds}
 use Rattle.bb_shell.proofs.Ends.{retried_failed, some_joined}
-use Rattle.bb_shell.proofs.Joins.{outside_joined, outside_refl, stored_joined, stored_refl}
+use Rattle.bb_shell.proofs.Joins.{outside_joined, outside_refl, stored_joined, stored_refl, wears_refl}
 use Rattle.bb_shell.proofs.LastRounds.{kept_cons, last_cons, refused_cons}
 use Rattle.bb_shell.proofs.Reached.{StopsRefused, rounds_later}
-use Rattle.bb_shell.proofs.Starts.{round_adds, round_later, round_outside, round_rose, round_stored}
+use Rattle.bb_shell.proofs.Starts.{round_adds, round_later, round_outside, round_rose, round_stored, round_wears}
 use Rattle.bb_shell.proofs.Trails.{rounds_exit, rounds_trail}
 use Rattle.bb_shell.proofs.Underway.{rose_more, rose_none}
 use Rattle.bb_shell.specs.Boot.{AreRounds, Round, has_failed, is_retried, last_round, plan_at}
@@ -134,6 +136,18 @@ module _ (keyed : Keyed) (plans : List (Option Plan)) where
       (round_outside keyed plans kept used run.copy round from run.device run.before)
       (run_outside later (Some round.table) run.copy now run.device to run.behind)
 
+  pub run_wears : (rounds : List Round) (kept : Option (List ℕ)) (used now : Option ℕ) (from to : Device) →
+      AreRun keyed plans kept used now rounds from to → WearsCopies (laid_form keyed) (laid_kinds keyed.layout) from to
+  unfolding AreRun
+  run_wears [] kept used now from to run =
+      subst (WearsCopies (laid_form keyed) (laid_kinds keyed.layout) from) (sym run.1) (wears_refl keyed from)
+  run_wears (round ∷ later) kept used now from to run =
+      copies_joined (laid_form keyed) (laid_kinds keyed.layout) from run.device to
+      (round_later keyed plans kept used run.copy round from run.device run.before)
+      (rounds_later keyed plans later (Some round.table) run.copy now run.device to run.behind)
+      (round_wears keyed plans kept used run.copy round from run.device run.before)
+      (run_wears later (Some round.table) run.copy now run.device to run.behind)
+
   unrefused_is : (outcome : Outcome) → refusal_of outcome ≡ None → is_refused_save outcome ≡ false
   unrefused_is outcome none = ap (λ o. is_some o) none
 
@@ -166,6 +180,7 @@ module _ (keyed : Keyed) (plans : List (Option Plan)) where
     exit = rounds_exit keyed plans rounds kept used now from to geometry (stops_refused rounds stops) run;
     stored = λ none. run_stored rounds kept used now from to geometry run stops none;
     outside = run_outside rounds kept used now from to run;
+    wears = run_wears rounds kept used now from to run;
     later = rounds_later keyed plans rounds kept used now from to run;
     starts = run_adds rounds kept used now from to run stops;
     start_faults = run_rose rounds kept used now from to run;

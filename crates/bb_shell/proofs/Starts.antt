@@ -7,7 +7,9 @@ use Rattle.bb_bucket.specs.Calls.{HasFound, candidate_in}
 use Rattle.bb_bucket.specs.Kind.{Holding, part_of}
 use Rattle.bb_copies.specs.Buckets.{AllAgree}
 use Rattle.bb_copies.specs.Loading.{KeepsOutside}
+use Rattle.bb_copies.specs.Wearing.{WearsCopies}
 use Rattle.bb_copies.proofs.Runs.{later_refl}
+use Rattle.bb_copies.proofs.Wearing.{copies_joined}
 use Rattle.bb_flash.proofs.Moments.{later_joined}
 use Rattle.bb_flash.specs.declared.geometry.Geometry.{Geometry}
 use Rattle.bb_flash.specs.declared.plan.Plan.{Plan}
@@ -15,9 +17,9 @@ use Rattle.bb_flash.specs.Calls.{told_after_start}
 use Rattle.bb_flash.specs.Cuts.{IsLater}
 use Rattle.bb_flash.specs.Device.{Device, IsDevice, Start, Told, changes, content, erases, starts}
 use Rattle.bb_state.specs.Keyed.{Keyed}
-use Rattle.bb_state.specs.Kinds.{laid_kinds}
-use Rattle.bb_shell.proofs.Joins.{outside_joined, outside_refl, some_is, still_outside, stored_joined, stored_refl}
-use Rattle.bb_shell.proofs.Saves.{save_later, save_outside, save_starts, save_stored}
+use Rattle.bb_state.specs.Kinds.{laid_form, laid_kinds}
+use Rattle.bb_shell.proofs.Joins.{outside_joined, outside_refl, some_is, still_outside, still_wears, stored_joined, stored_refl, wears_refl}
+use Rattle.bb_shell.proofs.Saves.{save_later, save_outside, save_starts, save_stored, save_wears}
 use Rattle.bb_shell.specs.Boot.{Round, plan_at}
 use Rattle.bb_shell.specs.Ends.{AddsStart, RaisedBy, StartsOnce, StaysStored, failed_start}
 use Rattle.bb_shell.specs.Running.{IsRoundRun, IsSaveRun, IsStartFailed, IsStartMade, IsTried, StartRuns, is_refused_save, refusal_of}
@@ -78,6 +80,11 @@ pub start_outside : (keyed : Keyed) (plan : Option Plan) (outcome : Outcome) (fr
 start_outside keyed plan outcome from to =
     by_start from to (KeepsOutside (laid_kinds keyed.layout) from) (outside_refl (laid_kinds keyed.layout) from)
     (λ made runs. still_outside (laid_kinds keyed.layout) from to runs.keeps.content runs.keeps.changes) plan outcome
+
+pub start_wears : (keyed : Keyed) (plan : Option Plan) (outcome : Outcome) (from to : Device) → IsTried plan outcome from to → WearsCopies (laid_form keyed) (laid_kinds keyed.layout) from to
+start_wears keyed plan outcome from to =
+    by_start from to (WearsCopies (laid_form keyed) (laid_kinds keyed.layout) from) (wears_refl keyed from)
+    (λ made runs. still_wears keyed from to runs.keeps.content runs.keeps.changes runs.keeps.faults) plan outcome
 
 -- a call that failed counts once
 raised_once : (n : ℕ) → one_more n ≡ max n (min (n + 1) (2 ^ 64 - 1))
@@ -169,6 +176,12 @@ module _ (keyed : Keyed) (plans : List (Option Plan)) (kept : Option (List ℕ))
       outside_joined (laid_kinds keyed.layout) from run.middle to to_middle (start_later (plan_at plans round.target) round.outcome run.middle to run.tried)
       (save_outside keyed kept used now round.table (refusal_of round.outcome) from run.middle run.saved)
       (start_outside keyed (plan_at plans round.target) round.outcome run.middle to run.tried)
+
+  pub round_wears : WearsCopies (laid_form keyed) (laid_kinds keyed.layout) from to
+  round_wears =
+      copies_joined (laid_form keyed) (laid_kinds keyed.layout) from run.middle to to_middle (start_later (plan_at plans round.target) round.outcome run.middle to run.tried)
+      (save_wears keyed kept used now round.table (refusal_of round.outcome) from run.middle run.saved)
+      (start_wears keyed (plan_at plans round.target) round.outcome run.middle to run.tried)
 
   pub round_adds : AddsStart (plan_at plans round.target) round.outcome from to
   round_adds =

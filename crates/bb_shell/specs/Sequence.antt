@@ -3,12 +3,13 @@
 use Rattle.std.specs.Prelude.{◌≡◌, ℕ, Bool, true, false, List, [], ◌∷◌, Option, Some, None, option_and_then}
 use Rattle.std.specs.Option.{option_map_or}
 use Rattle.bb_copies.specs.Loading.{KeepsOutside}
+use Rattle.bb_copies.specs.Wearing.{WearsCopies}
 use Rattle.bb_copies.specs.declared.answers.CopyFault.{CopyFault}
 use Rattle.bb_flash.specs.Cuts.{IsLater}
 use Rattle.bb_flash.specs.Device.{Device, starts}
 use Rattle.bb_flash.specs.declared.plan.Plan.{Plan}
 use Rattle.bb_state.specs.Keyed.{Keyed}
-use Rattle.bb_state.specs.Kinds.{laid_kinds}
+use Rattle.bb_state.specs.Kinds.{laid_form, laid_kinds}
 use Rattle.bb_shell.specs.Boot.{Round, has_failed, last_round, plan_at}
 use Rattle.bb_shell.specs.Ends.{AddsStart, RaisedBy, StaysStored, failed_starts}
 use Rattle.bb_shell.specs.Rounds.{is_started}
@@ -70,6 +71,8 @@ pub record RanRounds
   -- and what they pass
   pub stored : refused_in rounds ≡ None → StaysStored keyed kept (kept_after kept rounds) from to
   pub outside : KeepsOutside (laid_kinds keyed.layout) from to
+  -- what is marked, and why calls failed
+  pub wears : WearsCopies (laid_form keyed) (laid_kinds keyed.layout) from to
   pub later : IsLater from to
   pub starts : AddsLast plans rounds from to
   pub start_faults : RaisedBy (failed_starts rounds) from.start_faults to.start_faults

@@ -5,11 +5,12 @@ ghost use Rattle.bb_chooser.specs.Binding.{IsBinding};
 ghost use Rattle.bb_chooser.specs.Choosing.{IsBest};
 ghost use Rattle.bb_chooser.specs.Others.{KeepsOthers};
 ghost use Rattle.bb_copies.specs.Loading.{KeepsOutside};
+ghost use Rattle.bb_copies.specs.Wearing.{WearsCopies};
 ghost use Rattle.bb_flash.specs.Cuts.{IsLater};
 ghost use Rattle.bb_shell.specs.Boot.{NoneQualifies, all_attempts, end_by, first_table, is_retried};
 ghost use Rattle.bb_shell.specs.Ends.{AddsStarts, HasEndCause, HaveRun, IsBooted, IsReady};
 ghost use Rattle.bb_shell.specs.Ends.{IsUnchanged, StaysStored, is_fault_end};
-ghost use Rattle.bb_state.specs.State.{IsOn, is_sure, last_table_of, keyed_of};
+ghost use Rattle.bb_state.specs.State.{IsOn, form_of, is_sure, last_table_of, keyed_of};
 ghost use Rattle.bb_state.specs.State.{kinds_of};
 
 use crate::boot_end::BootEnd;
@@ -53,7 +54,9 @@ pub fn boot_run<B: Board>(
         (Some (last_table_of state.new))
         (B.device board.old) (B.device board.new) }
 
-    // What stays.
+    // What is marked, and what stays.
+    ensures wears { WearsCopies (form_of state.old) (kinds_of state.old)
+        (B.device board.old) (B.device board.new) }
     ensures outside { KeepsOutside (kinds_of state.old) (B.device board.old) (B.device board.new) }
     ensures later { IsLater (B.device board.old) (B.device board.new) }
     ensures keyed { keyed_of state.new ≡ keyed_of state.old }

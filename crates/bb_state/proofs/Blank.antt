@@ -18,6 +18,7 @@ use Rattle.bb_state.specs.Keyed.{Keyed}
 use Rattle.bb_state.specs.Kinds.{any_holding, laid_buckets, laid_form, laid_kinds}
 use Rattle.bb_state.specs.declared.any_bucket.AnyBucket.{AnyBucket}
 use Rattle.bb_state.specs.declared.any_bucket.AnyBucket.TheVariants.{Stride, OneBlock, Circular}
+use Rattle.bb_state.specs.declared.any_bucket.AnyBucket.TheVariants.{SparedCircular, SparedOneBlock}
 
 part_erased : (page : ℕ) (region : Region) (image : Image) → IsErased image →
     bytes.IsErased (part_of page region image).bytes
@@ -38,6 +39,14 @@ copy_passes form page (Circular circle) image erased =
     ap (option_and_then form.passes)
     (log_of_erased circle.block.page (part_of page circle.block.region image)
     (part_erased page circle.block.region image erased))
+copy_passes form page (SparedOneBlock spared) image erased =
+    ap (option_and_then form.passes)
+    (front_of_erased spared.inner.block.page (part_of page spared.inner.block.region image)
+    (part_erased page spared.inner.block.region image erased))
+copy_passes form page (SparedCircular spared) image erased =
+    ap (option_and_then form.passes)
+    (log_of_erased spared.inner.block.page (part_of page spared.inner.block.region image)
+    (part_erased page spared.inner.block.region image erased))
 
 none_passes : (form : Form) (page : ℕ) (buckets : List AnyBucket) (image : Image) → IsErased image →
     list_any is_some (passings form page (kinds_of any_holding buckets) image) ≡ false

@@ -105,7 +105,9 @@ in_strides format key = record {
     storage = Stride 64;
     geometry = in_place_of 192;
     region = record { at = 0; size = 192 };
+    skip_bad = false;
     copies = 3;
+    places = [];
     area_len = 1;
     vars = [];
   };

@@ -1,5 +1,5 @@
 -- Layouts of one family, under one key, have the same copies, which pass the same.
-use Rattle.std.proofs.Common.{◌≡◌, ◌∙◌, ℕ, List, None, Option, ap, map, refl}
+use Rattle.std.proofs.Common.{◌≡◌, ◌∙◌, ℕ, Bool, List, None, Option, ap, map, refl}
 use Rattle.std.specs.List.{range_with_len}
 use Rattle.bb_base.specs.Form.{Form}
 use Rattle.bb_bucket.specs.Kind.{BucketKind}
@@ -8,6 +8,7 @@ use Rattle.bb_copies.specs.Passing.{passings}
 use Rattle.bb_flash.specs.Image.{Image}
 use Rattle.bb_flash.specs.declared.geometry.Geometry.{Geometry}
 use Rattle.bb_flash.specs.declared.region.Region.{Region}
+use Rattle.bb_layout.specs.Copies.{copy_place}
 use Rattle.bb_layout.specs.Family.{SameFamily}
 use Rattle.bb_layout.specs.Formats.{record_len}
 use Rattle.bb_layout.specs.Layout.{Laid, recorded_of}
@@ -15,7 +16,7 @@ use Rattle.bb_layout.specs.declared.format_kind.FormatKind.{FormatKind}
 use Rattle.bb_layout.specs.declared.format_kind.FormatKind.TheVariants.{Dtb, Raw, RawHmac}
 use Rattle.bb_layout.specs.declared.storage.Storage.{Storage}
 use Rattle.bb_state.specs.Keyed.{Keyed}
-use Rattle.bb_state.specs.Kinds.{any_form, any_holding, bucket_at, format_for, laid_buckets, laid_form, laid_kinds, longest_area, longest_len}
+use Rattle.bb_state.specs.Kinds.{any_form, any_holding, bucket_at, format_for, laid_buckets, laid_form, laid_kinds, longest_area, longest_len, spared_if}
 use Rattle.bb_state.specs.declared.any_bucket.AnyBucket.{AnyBucket}
 use Rattle.bb_state.specs.declared.any_format.AnyFormat.{AnyFormat}
 use Rattle.bb_state.specs.declared.any_format.AnyFormat.TheVariants as formats
@@ -38,17 +39,22 @@ longest_same one other family =
 
 -- ---- the copies
 
-abbrev buckets_by : Geometry → Storage → Region → ℕ → ℕ → List AnyBucket
-buckets_by geometry storage region copies len =
-    map (bucket_at geometry storage region len) (range_with_len 0 copies)
+abbrev buckets_by : Bool → List ℕ → Geometry → Storage → Region → ℕ → ℕ → List AnyBucket
+buckets_by skip places geometry storage region copies len =
+    map (λ copy. spared_if skip (bucket_at geometry storage region len (copy_place places copy)))
+    (range_with_len 0 copies)
 
 pub buckets_same : (one other : Laid) → SameFamily one other → laid_buckets one ≡ laid_buckets other
 buckets_same one other family =
-    ap (λ g. buckets_by g one.storage one.region one.copies (longest_len one)) family.geometry
-    ∙ ap (λ s. buckets_by other.geometry s one.region one.copies (longest_len one)) family.storage
-    ∙ ap (λ r. buckets_by other.geometry other.storage r one.copies (longest_len one)) family.region
-    ∙ ap (λ n. buckets_by other.geometry other.storage other.region n (longest_len one)) family.copies
-    ∙ ap (buckets_by other.geometry other.storage other.region other.copies) (longest_same one other family)
+    let long = longest_len one in
+    ap (λ skip. buckets_by skip one.places one.geometry one.storage one.region one.copies long) family.skip_bad
+    ∙ ap (λ at. buckets_by other.skip_bad at one.geometry one.storage one.region one.copies long) family.places
+    ∙ ap (λ g. buckets_by other.skip_bad other.places g one.storage one.region one.copies long) family.geometry
+    ∙ ap (λ s. buckets_by other.skip_bad other.places other.geometry s one.region one.copies long) family.storage
+    ∙ ap (λ r. buckets_by other.skip_bad other.places other.geometry other.storage r one.copies long) family.region
+    ∙ ap (λ n. buckets_by other.skip_bad other.places other.geometry other.storage other.region n long) family.copies
+    ∙ ap (buckets_by other.skip_bad other.places other.geometry other.storage other.region other.copies)
+    (longest_same one other family)
 
 pub kinds_same : (one other : Laid) → SameFamily one other → laid_kinds one ≡ laid_kinds other
 kinds_same one other family = ap (kinds_of any_holding) (buckets_same one other family)

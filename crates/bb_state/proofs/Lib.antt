@@ -10,4 +10,5 @@ pub mod NamedVars
 pub mod Rooms
 pub mod Sets
 pub mod Showing
+pub mod Standing
 pub mod Tables

@@ -1,5 +1,5 @@
 -- The kinds of buckets and of formats, and which of them the copies of a layout have under its key.
-use Rattle.std.specs.Prelude.{ℕ, ◌-◌, ◌==◌, ◌&&◌, Bool, length, min, List, Option, None, map}
+use Rattle.std.specs.Prelude.{ℕ, ◌-◌, ◌==◌, ◌&&◌, Bool, true, false, length, min, List, Option, None, map}
 use Rattle.std.specs.List.{range_with_len}
 use Rattle.bb_base.specs.Form.{Form, IsForm, area_limit}
 use Rattle.bb_flash.specs.Image.{Image}
@@ -15,12 +15,14 @@ use Rattle.bb_bucket.specs.StrideLaws.{stride_laws}
 use Rattle.bb_circular.specs.Circular.{circular_holding}
 use Rattle.bb_circular.specs.CircularLaws.{circle_laws}
 use Rattle.bb_circular.specs.Entries.{closing_len}
+use Rattle.bb_nand.specs.Spared.{spared_holding}
+use Rattle.bb_nand.specs.SparedLaws.{spared_is_kind}
 use Rattle.bb_dtbrec.specs.Dtb.{dtb_form}
 use Rattle.bb_dtbrec.specs.Laws.{dtb_laws}
 use Rattle.bb_dtbrec.specs.Layouts.{layout_pattern}
 use Rattle.bb_raw.specs.Laws.{raw_laws}
 use Rattle.bb_raw.specs.Raw.{raw_form}
-use Rattle.bb_layout.specs.Copies.{region_of}
+use Rattle.bb_layout.specs.Copies.{copy_place, region_of}
 use Rattle.bb_layout.specs.Formats.{record_len}
 use Rattle.bb_layout.specs.Layout.{Laid, recorded_of}
 use Rattle.bb_layout.specs.declared.format_kind.FormatKind.{FormatKind}
@@ -32,6 +34,7 @@ use Rattle.bb_copies.specs.Passing.{passings}
 use Rattle.bb_state.specs.Keyed.{Keyed}
 use Rattle.bb_state.specs.declared.any_bucket.AnyBucket.{AnyBucket}
 use Rattle.bb_state.specs.declared.any_bucket.AnyBucket.TheVariants.{Stride, OneBlock, Circular}
+use Rattle.bb_state.specs.declared.any_bucket.AnyBucket.TheVariants.{SparedCircular, SparedOneBlock}
 use Rattle.bb_state.specs.declared.any_format.AnyFormat.{AnyFormat}
 use Rattle.bb_state.specs.declared.any_format.AnyFormat.TheVariants.{Dtb, Raw}
 
@@ -41,12 +44,18 @@ unfoldable pub any_holding : AnyBucket → Holding
 any_holding (Stride it) = stride_holding it
 any_holding (OneBlock it) = one_block_holding it
 any_holding (Circular circle) = circular_holding circle
+any_holding (SparedOneBlock spared) = spared_holding (one_block_holding spared.inner)
+any_holding (SparedCircular spared) = spared_holding (circular_holding spared.inner)
 
 pub any_bucket_laws : (bucket : AnyBucket) → IsKind (any_holding bucket).kind
 unfolding any_holding
 any_bucket_laws (Stride it) = stride_laws it
 any_bucket_laws (OneBlock it) = one_block_laws it
 any_bucket_laws (Circular circle) = circle_laws circle
+any_bucket_laws (SparedOneBlock spared) =
+    spared_is_kind (one_block_holding spared.inner).kind (one_block_laws spared.inner)
+any_bucket_laws (SparedCircular spared) =
+    spared_is_kind (circular_holding spared.inner).kind (circle_laws spared.inner)
 
 abbrev pub any_form : AnyFormat → Form
 any_form (Raw kind) = raw_form kind
@@ -62,7 +71,7 @@ longest form = form.length_of form.area_len
 
 -- ---- of a layout
 
--- the block of a copy, counted from 0
+-- the block at a place of the partition, counted from 0
 abbrev pub block_at : Geometry → Storage → Region → ℕ → Block
 block_at geometry storage partition copy =
     record { region = region_of geometry storage partition copy; page = geometry.page }
@@ -93,12 +102,22 @@ bucket_at geometry storages.Circular partition len copy =
       sight = None;
     })
 
+-- where bad blocks are skipped, a block is marked once its bucket is voided
+abbrev pub spared_if : Bool → AnyBucket → AnyBucket
+spared_if true (OneBlock it) = SparedOneBlock (record { inner = it })
+spared_if true (Circular circle) = SparedCircular (record { inner = circle })
+spared_if true bucket = bucket
+spared_if false bucket = bucket
+
+-- the bucket of a copy of a layout
+abbrev pub copy_bucket : Laid → ℕ → ℕ → AnyBucket
+copy_bucket layout len copy =
+    spared_if layout.skip_bad
+    (bucket_at layout.geometry layout.storage layout.region len (copy_place layout.places copy))
+
 -- the buckets of all copies, in their order, for records of so many bytes
 abbrev pub buckets_for : ℕ → Laid → List AnyBucket
-buckets_for len layout =
-    map
-    (bucket_at layout.geometry layout.storage layout.region len)
-    (range_with_len 0 layout.copies)
+buckets_for len layout = map (copy_bucket layout len) (range_with_len 0 layout.copies)
 
 -- how many bytes the longest area has that records of a format keep: raw records keep areas of any
 -- length, and blobs those of their layout

@@ -17,6 +17,7 @@ pub mod Kinds
 pub mod Lines
 pub mod Named
 pub mod Shows
+pub mod Standing
 pub mod State
 -- Inside: only private contracts and proofs cite it.
 pub mod Room

@@ -6,6 +6,7 @@ use bb_base::Failed;
 use bb_bucket::{Bucket, Found, OneBlock, Stride};
 use bb_circular::Circular;
 use bb_flash::{Flash, Region};
+use bb_nand::Spared;
 
 /// A bucket of any kind: each call is that of the bucket inside.
 #[derive(Debug, Drop)]
@@ -16,6 +17,10 @@ pub enum AnyBucket {
     OneBlock(OneBlock),
     /// A block that holds a log of records.
     Circular(Circular),
+    /// A block that holds one record, and is marked where it is voided.
+    SparedOneBlock(Spared<OneBlock>),
+    /// A block that holds a log of records, and is marked where it is voided.
+    SparedCircular(Spared<Circular>),
 }
 
 impl Bucket for AnyBucket {
@@ -28,6 +33,8 @@ impl Bucket for AnyBucket {
             AnyBucket::Stride(stride) => stride.region(),
             AnyBucket::OneBlock(block) => block.region(),
             AnyBucket::Circular(log) => log.region(),
+            AnyBucket::SparedOneBlock(block) => block.region(),
+            AnyBucket::SparedCircular(log) => log.region(),
         }
     }
 
@@ -36,6 +43,8 @@ impl Bucket for AnyBucket {
             AnyBucket::Stride(stride) => stride.room(),
             AnyBucket::OneBlock(block) => block.room(),
             AnyBucket::Circular(log) => log.room(),
+            AnyBucket::SparedOneBlock(block) => block.room(),
+            AnyBucket::SparedCircular(log) => log.room(),
         }
     }
 
@@ -44,6 +53,8 @@ impl Bucket for AnyBucket {
             AnyBucket::Stride(stride) => stride.most(),
             AnyBucket::OneBlock(block) => block.most(),
             AnyBucket::Circular(log) => log.most(),
+            AnyBucket::SparedOneBlock(block) => block.most(),
+            AnyBucket::SparedCircular(log) => log.most(),
         }
     }
 
@@ -52,6 +63,8 @@ impl Bucket for AnyBucket {
             AnyBucket::Stride(stride) => stride.find(flash),
             AnyBucket::OneBlock(block) => block.find(flash),
             AnyBucket::Circular(log) => log.find(flash),
+            AnyBucket::SparedOneBlock(block) => block.find(flash),
+            AnyBucket::SparedCircular(log) => log.find(flash),
         }
     }
 
@@ -60,6 +73,8 @@ impl Bucket for AnyBucket {
             AnyBucket::Stride(stride) => stride.part(flash, from, out),
             AnyBucket::OneBlock(block) => block.part(flash, from, out),
             AnyBucket::Circular(log) => log.part(flash, from, out),
+            AnyBucket::SparedOneBlock(block) => block.part(flash, from, out),
+            AnyBucket::SparedCircular(log) => log.part(flash, from, out),
         }
     }
 
@@ -68,6 +83,8 @@ impl Bucket for AnyBucket {
             AnyBucket::Stride(stride) => stride.write(flash, rec),
             AnyBucket::OneBlock(block) => block.write(flash, rec),
             AnyBucket::Circular(log) => log.write(flash, rec),
+            AnyBucket::SparedOneBlock(block) => block.write(flash, rec),
+            AnyBucket::SparedCircular(log) => log.write(flash, rec),
         }
     }
 
@@ -76,6 +93,8 @@ impl Bucket for AnyBucket {
             AnyBucket::Stride(stride) => stride.void(flash),
             AnyBucket::OneBlock(block) => block.void(flash),
             AnyBucket::Circular(log) => log.void(flash),
+            AnyBucket::SparedOneBlock(block) => block.void(flash),
+            AnyBucket::SparedCircular(log) => log.void(flash),
         }
     }
 }

@@ -9,11 +9,12 @@ ghost use Rattle.bb_copies.specs.Placing.{AllPlaced, ReadsNothing};
 ghost use Rattle.bb_copies.specs.Saving.{IsSave};
 ghost use Rattle.bb_copies.specs.Store.{used_after};
 ghost use Rattle.bb_layout.specs.Convert.{convert};
+ghost use Rattle.bb_layout.specs.Copies.{copy_place};
 ghost use Rattle.bb_layout.specs.Layout.{fields_of};
 ghost use Rattle.bb_state.specs.Backed.{form_in, kinds_in};
 ghost use Rattle.bb_state.specs.Keyed.{FitsKey};
 ghost use Rattle.bb_state.specs.Kinds.{any_form, any_holding, bucket_at, buckets_for, format_of};
-ghost use Rattle.bb_state.specs.Kinds.{is_table, laid_buckets, longest};
+ghost use Rattle.bb_state.specs.Kinds.{is_table, laid_buckets, longest, spared_if};
 ghost use Rattle.bb_state.specs.Stored.{stored_len_of};
 ghost use Rattle.bb_state.specs.State.{looked_as};
 
@@ -26,6 +27,7 @@ use bb_dtbrec::Dtb;
 use bb_flash::Flash;
 use bb_hmac::Key;
 use bb_layout::{FormatKind, Layout, Storage};
+use bb_nand::Spared;
 use bb_raw::Raw;
 use std::alloc::Global;
 use std::marker::Model;
@@ -239,7 +241,8 @@ fn buckets_of(alloc: Global, layout: &Layout, most: usize) -> Result<List<AnyBuc
 {
     let mut buckets = List::none(alloc);
     for copy in 0..layout.copies {
-        buckets.push(bucket_at(alloc, layout, most, copy)?)?;
+        let bucket = bucket_at(alloc, layout, most, copy)?;
+        buckets.push(spared_if(layout.skip_bad, bucket))?;
     }
     Ok(buckets)
 }
@@ -247,7 +250,8 @@ fn buckets_of(alloc: Global, layout: &Layout, most: usize) -> Result<List<AnyBuc
 fn bucket_at(alloc: Global, layout: &Layout, most: usize, copy: u32) -> Result<AnyBucket, NoMemory>
     requires { copy < layout.now.copies }
     ensures { IfOk result (λ bucket. bucket
-        ≡ bucket_at layout.now.geometry layout.now.storage layout.now.region most copy) }
+        ≡ bucket_at layout.now.geometry layout.now.storage layout.now.region most
+        (copy_place layout.now.places copy)) }
 {
     let region = layout.region(copy);
     let page = layout.geometry.page;
@@ -255,6 +259,22 @@ fn bucket_at(alloc: Global, layout: &Layout, most: usize, copy: u32) -> Result<A
         Storage::Stride(_) => Ok(AnyBucket::Stride(Stride::of(alloc, region, most)?)),
         Storage::OneBlock => Ok(AnyBucket::OneBlock(OneBlock::of(alloc, region, page, most)?)),
         Storage::Circular => Ok(AnyBucket::Circular(Circular::of(alloc, region, page, most)?)),
+    }
+}
+
+// The bucket, which marks its block where bad ones are skipped.
+fn spared_if(skip: bool, bucket: AnyBucket) -> AnyBucket
+    ensures { result ≡ spared_if skip bucket }
+{
+    if !skip {
+        return bucket;
+    }
+    match bucket {
+        AnyBucket::OneBlock(inner) => AnyBucket::SparedOneBlock(Spared { inner }),
+        AnyBucket::Circular(inner) => AnyBucket::SparedCircular(Spared { inner }),
+        AnyBucket::Stride(stride) => AnyBucket::Stride(stride),
+        AnyBucket::SparedOneBlock(spared) => AnyBucket::SparedOneBlock(spared),
+        AnyBucket::SparedCircular(spared) => AnyBucket::SparedCircular(spared),
     }
 }
 

@@ -9,6 +9,7 @@ mod backing;
 mod error;
 mod lines;
 mod named;
+mod places;
 mod shell;
 mod state;
 mod value;

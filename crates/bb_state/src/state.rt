@@ -6,6 +6,7 @@ ghost use Rattle.std.specs.Prelude.{◌≡◌, IfOk, IsTrue, length};
 ghost use Rattle.bb_layout.specs.Defaults.{defaults_of};
 
 use crate::backing::Backing;
+use crate::places::places_in;
 use crate::{StateError, get_value, set_value};
 use bb_base::{Bytes, NoMemory};
 use bb_copies::{CopyFault, Loaded};
@@ -39,6 +40,7 @@ impl State {
     ghost use Rattle.bb_layout.specs.Layout.{fields_of};
     ghost use Rattle.bb_layout.specs.Outside.{ChangesVarsAlone};
     ghost use Rattle.bb_state.specs.Keyed.{FitsKey};
+    ghost use Rattle.bb_state.specs.Standing.{AreBlocks, standing_on};
     ghost use Rattle.bb_state.specs.Named.{Refuses, after_set, refusal_for, text_for};
     ghost use Rattle.bb_state.specs.State.{form_of, kinds_of, looked_as, FitsEveryDevice, IsOn};
     ghost use Rattle.bb_state.specs.State.{IsPlaced, has_changed, is_kept, is_sure, stored_of};
@@ -58,6 +60,29 @@ impl State {
         let table = defaults(alloc, &layout)?;
         let backing = Backing::mount(alloc, layout, key)?;
         Ok(State { table, backing })
+    }
+
+    /// As `mount`, for a layout that skips bad blocks: its copies stand in these blocks of the
+    /// device, and each marks its block once it is voided.
+    pub fn mount_on(
+        alloc: Global,
+        layout: Layout,
+        key: Option<Key>,
+        blocks: &[u32],
+    ) -> Result<State, NoMemory>
+        requires key { FitsKey layout.format key }
+        requires skips { layout.skip_bad ≡ true }
+        requires blocks { AreBlocks (fields_of layout) blocks.now }
+        ensures keyed { IfOk result (λ state. keyed_of state
+            ≡ record { layout = standing_on blocks.now (fields_of layout); key = key }) }
+        ensures table { IfOk result (λ state.
+            state.table ≡ defaults_of layout.area_len layout.vars) }
+        ensures sure { IfOk result (λ state. is_sure state ≡ false) }
+        ensures fresh { IfOk result FitsEveryDevice }
+    {
+        let places = places_in(alloc, &layout, blocks)?;
+        let standing = Layout::standing_at(alloc, layout, places.as_slice())?;
+        State::mount(alloc, standing, key)
     }
 
     /// The layout.

@@ -62,6 +62,19 @@ pub fn replace<R: Files<File = File> + AllocGlobal>(
     or_without(rt, path, kept)
 }
 
+/// As `replace`, but where the folder couldn't be waited for the new file stays at `path`.
+pub fn renew<R: Files<File = File> + AllocGlobal>(
+    rt: &R,
+    path: &str,
+    new_path: &str,
+    bytes: &[u8],
+) -> io::Result<()> {
+    make_new(rt, new_path, bytes)?;
+    let renamed = fs::rename(rt, new_path, path);
+    or_without(rt, new_path, renamed)?;
+    keep_folder(rt, path)
+}
+
 /// Makes a file of these bytes, and waits until they are on the disk. What stood at the path is
 /// removed before, and neither opened nor followed. Where this fails nothing stands there, unless
 /// the system doesn't remove it.

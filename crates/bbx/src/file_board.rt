@@ -1,6 +1,9 @@
 ghost use Rattle.std.specs.Prelude.{None};
+ghost use Rattle.std.specs.Prelude.{◌≡◌, ◌≤◌, OnOk, is_err};
+ghost use Rattle.bb_base.specs.Faults.{counted, one_more};
 ghost use Rattle.bb_flash.specs.Geometry.{IsGeometry};
 
+use crate::bad_file::BadFile;
 use crate::device_file::{Access, open_device};
 use crate::disk::{blank_through, write_through};
 use crate::open_error::{Cause, OpenError};
@@ -10,18 +13,22 @@ use bb_base::{Failed, FaultCount};
 use bb_flash::{Board, Flash, Geometry, Health, Plan};
 use std::fs::File;
 use std::io;
+use std::io::ErrorKind;
 
-/// A device in a file of the system, which starts a system by writing its plan into a file. It
-/// doesn't tell what it holds, and counts the calls and the starts that failed.
+/// A device in a file of the system, which starts a system by writing its plan into a file, and
+/// keeps the marks of its blocks in another. It doesn't tell what it holds, and counts the calls
+/// and the starts that failed.
 #[derive(Drop)]
 pub struct FileBoard<'r> {
     rt: &'r HostRuntime,
     file: File,
     ahead: ReadAhead,
     plan_file: PlanFile,
+    bad_file: BadFile,
     geometry: Geometry,
     faults: FaultCount,
     read_faults: FaultCount,
+    breaks: FaultCount,
     start_faults: FaultCount,
     error: Option<io::Error>,
     start_error: Option<io::Error>,
@@ -47,9 +54,11 @@ impl<'r> FileBoard<'r> {
             file,
             ahead: ReadAhead::of(rt.alloc(), geometry).map_err(no_memory)?,
             plan_file: PlanFile::of(rt, path, plan).map_err(no_memory)?,
+            bad_file: BadFile::of(rt, path, geometry).map_err(no_memory)?,
             geometry,
             faults: FaultCount::none(),
             read_faults: FaultCount::none(),
+            breaks: FaultCount::none(),
             start_faults: FaultCount::none(),
             error: None,
             start_error: None,
@@ -66,6 +75,41 @@ impl<'r> FileBoard<'r> {
         self.error
     }
 
+    // A call failed by this error of the system.
+    fn fail(&mut self, error: io::Error) -> Failed
+        ensures faults { self.new.faults.count ≡ one_more self.old.faults.count }
+        ensures breaks { self.new.breaks.count ≡ one_more self.old.breaks.count }
+        ensures read_faults { self.new.read_faults.count ≡ self.old.read_faults.count }
+        ensures start_faults { self.new.start_faults.count ≡ self.old.start_faults.count }
+        ensures geometry { self.new.geometry ≡ self.old.geometry }
+    {
+        self.error = Some(error);
+        self.faults.raise();
+        self.breaks.raise();
+        Failed
+    }
+
+    // A program or an erase that touches a marked block is refused, which is a fault and no break.
+    fn refuse_marked(&mut self, at: u32, len: u32) -> Result<(), Failed>
+        ensures faults { self.new.faults.count
+            ≡ counted (is_err result) self.old.faults.count }
+        ensures spared { OnOk result (self.new.breaks.count ≡ self.old.breaks.count) }
+        ensures later { self.old.breaks.count ≤ self.new.breaks.count }
+        ensures read_faults { self.new.read_faults.count ≡ self.old.read_faults.count }
+        ensures start_faults { self.new.start_faults.count ≡ self.old.start_faults.count }
+        ensures geometry { self.new.geometry ≡ self.old.geometry }
+    {
+        match self.bad_file.touches(self.geometry, at, len) {
+            Ok(false) => Ok(()),
+            Ok(true) => {
+                self.error = Some(io::Error::from(ErrorKind::PermissionDenied));
+                self.faults.raise();
+                Err(Failed)
+            }
+            Err(error) => Err(self.fail(error)),
+        }
+    }
+
     /// The system's error at the start that failed last.
     pub fn start_error(&self) -> Option<io::Error> {
         self.start_error
@@ -78,6 +122,7 @@ impl<'r> Flash for FileBoard<'r> {
       told = None;
       faults = b.faults.count;
       read_faults = b.read_faults.count;
+      breaks = b.breaks.count;
       start_faults = b.start_faults.count;
     } };
 
@@ -87,20 +132,17 @@ impl<'r> Flash for FileBoard<'r> {
 
     fn read(&mut self, at: u32, out: &mut [u8]) -> Result<Health, Failed> {
         if let Err(error) = self.ahead.read_exact_at(&self.file, out, u64::from(at)) {
-            self.error = Some(error);
-            self.faults.raise();
             self.read_faults.raise();
-            return Err(Failed);
+            return Err(self.fail(error));
         }
         Ok(Health::Fine)
     }
 
     fn program(&mut self, at: u32, bytes: &[u8]) -> Result<(), Failed> {
         self.ahead.forget();
+        self.refuse_marked(at, bytes.len() as u32)?;
         if let Err(error) = write_through(&self.file, u64::from(at), bytes) {
-            self.error = Some(error);
-            self.faults.raise();
-            return Err(Failed);
+            return Err(self.fail(error));
         }
         Ok(())
     }
@@ -109,10 +151,29 @@ impl<'r> Flash for FileBoard<'r> {
         let len = u64::from(self.geometry.block);
         let start = u64::from(block) * len;
         self.ahead.forget();
+        self.refuse_marked(
+            block.saturating_mul(self.geometry.block),
+            self.geometry.block,
+        )?;
         if let Err(error) = blank_through(&self.file, start, start.saturating_add(len)) {
-            self.error = Some(error);
-            self.faults.raise();
-            return Err(Failed);
+            return Err(self.fail(error));
+        }
+        Ok(())
+    }
+
+    fn bad(&mut self, block: u32) -> Result<bool, Failed> {
+        match self.bad_file.is_bad(block) {
+            Ok(bad) => Ok(bad),
+            Err(error) => {
+                self.read_faults.raise();
+                Err(self.fail(error))
+            }
+        }
+    }
+
+    fn mark(&mut self, block: u32) -> Result<(), Failed> {
+        if let Err(error) = self.bad_file.mark(self.rt, block) {
+            return Err(self.fail(error));
         }
         Ok(())
     }

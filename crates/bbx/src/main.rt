@@ -3,6 +3,7 @@
 #![tactic(auto)]
 
 mod act;
+mod bad_file;
 mod command_line;
 mod device_file;
 mod disk;

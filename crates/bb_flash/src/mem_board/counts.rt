@@ -60,6 +60,21 @@ impl MemBoard {
         self.faults.count
     }
 
+    /// How many calls of the flash failed but for those that a marked block refused, at most
+    /// 2^64 - 1. A restart keeps it.
+    pub fn breaks(&self) -> u64
+        ensures { result ≡ self.now.breaks }
+    {
+        self.breaks.count
+    }
+
+    /// Which blocks are marked, the lowest block first.
+    pub fn marked(&self) -> &[bool]
+        ensures { result.now ≡ self.now.told.image.marked }
+    {
+        &self.cells.marked
+    }
+
     /// How many starts failed, but at most 2^64 - 1. A restart keeps it.
     pub fn start_faults(&self) -> u64
         ensures { result ≡ self.now.start_faults }

@@ -1,4 +1,4 @@
-use super::board::{in_place, is_bad_prop, layout, layout_on, refusal_on};
+use super::board::{in_blocks, in_place, is_bad_prop, layout, layout_on, refusal_on};
 use bb_flash::Region;
 use bb_layout::{Layout, LayoutError};
 use std::alloc::Global;
@@ -98,5 +98,21 @@ fn an_enum_has_a_name_between_two_zero_bytes(rt: HostRuntime) -> Result<(), Fail
     assert!(rt; is_default(rt.alloc(), last_name(), &[2, 0, 0, 0])?);
     assert!(rt; is_bad_prop(rt.alloc(), past_the_names(), "default")?);
     assert!(rt; is_bad_prop(rt.alloc(), no_text(), "names")?);
+    Ok(())
+}
+
+// Whether a board on a device with blocks skips bad ones.
+fn skips_bad(alloc: Global, state: &[u8]) -> Result<bool, Fail> {
+    let layout = layout_on(alloc, state, b"", in_blocks())?;
+    Ok(layout.skip_bad)
+}
+
+#[test]
+fn an_empty_property_skips_bad_blocks(rt: HostRuntime) -> Result<(), Fail> {
+    assert!(rt; skips_bad(rt.alloc(), b"bb,skip-bad;\n")?);
+    assert!(rt; !skips_bad(rt.alloc(), b"")?);
+    assert!(rt; is_bad_prop(rt.alloc(), b"bb,skip-bad;\n", "bb,skip-bad")?);
+    let refused = refusal_on(rt.alloc(), b"bb,skip-bad = <1>;\n", b"", in_blocks())?;
+    assert!(rt; matches!(refused, LayoutError::BadProp(_)));
     Ok(())
 }

@@ -4,7 +4,7 @@ ghost use Rattle.bb_actions.specs.Actions.{AreBoundTo};
 ghost use Rattle.bb_layout.specs.Facts.{AreVars};
 
 use bb_actions::{ActionError, BoundActionList, actions_text, put_values, read_actions};
-use bb_base::{Bytes, NoMemory, Text, TextList};
+use bb_base::{Bytes, List, NoMemory, Text, TextList};
 use bb_flash::{Geometry, Region};
 use bb_layout::{FormatKind, Layout, Storage, Var, VarList};
 use bb_state::StateError;
@@ -32,7 +32,9 @@ fn one_byte(alloc: Global) -> Result<Layout, NoMemory>
             size: 192,
         },
         region: Region { at: 0, size: 192 },
+        skip_bad: false,
         copies: 3,
+        places: List::none(alloc),
         area_len: 1,
         vars,
     })

@@ -1,9 +1,12 @@
-use Rattle.std.proofs.Common.{◌/◌}
-use Rattle.bb_bucket.specs.BlockLaws.{block_of}
-use Rattle.bb_bucket.proofs.Erases.{erase_changes, erase_torn, leaves_blank}
+use Rattle.std.proofs.Common.{◌≡◌, ◌*◌, ◌/◌, ℕ, length, arith, inr}
+use Rattle.std.proofs.lemmas.List.{length-replicate}
+use Rattle.bb_flash.specs.declared.geometry.Geometry.{Geometry}
+use Rattle.bb_bucket.specs.BlockLaws.{block_of, whole_block}
+use Rattle.bb_bucket.proofs.Erases.{erase_changes, erase_torn, leaves_blank, place_of_block}
+use Rattle.bb_bucket.proofs.Marks.{wears_of_call}
 use Rattle.bb_bucket.proofs.OneCall.{ends_torn}
 use Rattle.bb_bucket.proofs.Outcomes.{on_ok_weaker}
-use Rattle.bb_flash.specs.Calls.{told_after_erase}
+use Rattle.bb_flash.specs.Calls.{erased_bytes, told_after_erase}
 use Rattle.bb_bucket.proofs.Making.{erase_adds, made_one}
 use Rattle.bb_bucket.proofs.parts.erase_block.Goals as goal
 
@@ -45,3 +48,16 @@ returns-clause-made g c =
     let number = c.args.block.region.at / c.args.block.region.size in
     made_one (told_after_erase from.geometry number) c.erase.result c.args.block.region _ _ from
     (g.F.Flash.device c.erase.new.self) (erase_adds from.geometry number) made.call.changes made.done
+
+pub returns-clause-wears : goal.returns-clause-wears
+returns-clause-wears g c =
+    let from = g.F.Flash.device c.args.flash.now in
+    let geometry : Geometry = from.geometry in
+    let held = block_of c.args.block geometry c.requires.held in
+    let len : length (erased_bytes geometry) ≡ geometry.block = length-replicate {A = ℕ} geometry.block 255 in
+    let place = place_of_block c.args.block geometry held in
+    wears_of_call c.erase.result c.args.block.region
+    (c.args.block.region.at / c.args.block.region.size * geometry.block) (erased_bytes geometry) from
+    (g.F.Flash.device c.erase.new.self) (inr (whole_block c.args.block geometry held))
+    (omega (arith, place)) (omega (arith, len, held.size, held.page_least, held.page_most))
+    (omega (arith, place, len, held.size)) c.erase.ensures.call

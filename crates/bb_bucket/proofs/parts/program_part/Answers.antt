@@ -7,6 +7,7 @@ use Rattle.bb_bucket.proofs.Pages.{sum_aligned}
 use Rattle.bb_bucket.proofs.Programs.{leaves_program, torn_in_region}
 use Rattle.bb_flash.specs.Calls.{told_after_program}
 use Rattle.bb_bucket.proofs.Making.{made_one, program_adds}
+use Rattle.bb_bucket.proofs.Marks.{wears_of_call}
 use Rattle.bb_bucket.proofs.parts.program_part.Goals as goal
 
 pub returns-clause-done : goal.returns-clause-done
@@ -54,3 +55,9 @@ returns-clause-made g c =
     made_one (told_after_program from.geometry.page at c.args.bytes.now) c.program.result
     c.args.region at c.args.bytes.now from (g.F.Flash.device c.program.new.self)
     (program_adds from.geometry.page at c.args.bytes.now) made.call.changes made.done
+
+pub returns-clause-wears : goal.returns-clause-wears
+returns-clause-wears g c = λ alone.
+    wears_of_call c.program.result c.args.region (c.args.region.at + c.args.at) c.args.bytes.now
+    (g.F.Flash.device c.args.flash.now) (g.F.Flash.device c.program.new.self) alone (omega arith)
+    c.requires.some (omega (arith, c.requires.within)) c.program.ensures.call

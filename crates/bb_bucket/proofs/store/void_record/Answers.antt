@@ -1,4 +1,4 @@
-use Rattle.std.proofs.Common.{◌≡◌, ◌+◌, ◌%◌, OnOk, replicate, ap, ◌∙◌, arith, subst}
+use Rattle.std.proofs.Common.{◌≡◌, ◌+◌, ◌%◌, OnOk, replicate, ap, ◌∙◌, arith, subst, inl}
 use Rattle.std.proofs.Math.Nat.{mod-one, zero-mod}
 use Rattle.bb_flash.specs.Calls.{ChangesOnly}
 use Rattle.bb_flash.specs.Device.{Device}
@@ -39,3 +39,8 @@ returns-clause-calls g c =
     let start : c.args.stride.at + 0 ≡ c.args.stride.at = omega arith in
     void_calls c.args.stride from to held c.requires.least made.within.later made.within.whole
     (subst (λ at. ChangesOnly at (replicate 8 0) from to) start made.changes)
+
+pub returns-clause-wears : goal.returns-clause-wears
+returns-clause-wears g c =
+    c.program_part.ensures.wears
+    (inl (held_by c.args.stride (g.F.Flash.device c.args.flash.now).geometry c.requires.held).block)

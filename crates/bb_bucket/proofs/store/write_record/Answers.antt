@@ -1,4 +1,4 @@
-use Rattle.std.proofs.Common.{◌≡◌, ◌+◌, ◌%◌, ℕ, List, OnOk, length, ap, ◌∙◌, arith, subst}
+use Rattle.std.proofs.Common.{◌≡◌, ◌+◌, ◌%◌, ℕ, List, OnOk, length, ap, ◌∙◌, arith, subst, inl}
 use Rattle.std.proofs.Math.Nat.{mod-one, zero-mod}
 use Rattle.bb_flash.specs.Calls.{ChangesOnly}
 use Rattle.bb_flash.specs.Device.{Device}
@@ -41,3 +41,8 @@ returns-clause-calls g c =
     let changes = subst (λ (bytes : List ℕ). ChangesOnly (c.args.stride.at + 0) bytes from to) c.write_entry.ensures made.changes in
     write_calls c.args.stride c.args.rec.now from to held c.requires.room made.within.later made.within.whole
     (subst (λ at. ChangesOnly at (with_header c.args.rec.now) from to) start changes)
+
+pub returns-clause-wears : goal.returns-clause-wears
+returns-clause-wears g c =
+    c.program_part.ensures.wears
+    (inl (held_by c.args.stride (g.F.Flash.device c.args.flash.now).geometry c.requires.held).block)

@@ -1,9 +1,9 @@
-use Rattle.std.proofs.Common.{◌≡◌, ℕ, ◌+◌, ◌*◌, ◌/◌, ◌%◌, ◌<◌, ◌≤◌, List, length, take, sym, ap, ◌∙◌, subst, arith}
+use Rattle.std.proofs.Common.{◌≡◌, ℕ, ◌+◌, ◌*◌, ◌/◌, ◌%◌, ◌<◌, ◌≤◌, List, length, take, sym, ap, ◌∙◌, subst, arith, inr}
 use Rattle.std.proofs.Math.Nat.{add-mul, le_of_mul-le-mul_right}
 use Rattle.std.proofs.lemmas.Grind.{common_steps}
 use Rattle.bb_flash.specs.Image.{Image, IsBlank}
 use Rattle.bb_flash.proofs.Geometries.{whole_times}
-use Rattle.bb_bucket.specs.BlockLaws.{block_lies_on, block_of}
+use Rattle.bb_bucket.specs.BlockLaws.{block_lies_on, block_of, whole_block}
 use Rattle.bb_bucket.specs.Kind.{part_of}
 use Rattle.bb_bucket.proofs.Outcomes.{on_ok_weaker}
 use Rattle.bb_circular.specs.Entries.{entry_len}
@@ -77,3 +77,8 @@ returns-clause-made g c =
     let held = block_of c.args.block (g.F.Flash.device c.args.flash.now).geometry c.requires.held in
     append_made c.program_part.result c.args.block c.args.rec.now (g.F.Flash.device c.args.flash.now)
     (g.F.Flash.device c.program_part.new.flash) held c.args.next c.requires.fits c.requires.placed c.program_part.ensures.made
+
+pub returns-clause-wears : goal.returns-clause-wears
+returns-clause-wears g c =
+    let geometry = (g.F.Flash.device c.args.flash.now).geometry in
+    c.program_part.ensures.wears (inr (whole_block c.args.block geometry (block_of c.args.block geometry c.requires.held)))

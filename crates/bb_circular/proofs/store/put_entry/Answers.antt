@@ -1,6 +1,7 @@
-use Rattle.std.proofs.Common.{ℕ, ◌+◌, ◌≤◌, length, sym, ap, ◌∙◌, subst, arith}
+use Rattle.std.proofs.Common.{ℕ, ◌+◌, ◌≤◌, length, true, is_err, sym, ap, ◌∙◌, subst, arith, rules}
 use Rattle.std.proofs.Math.Nat.{zero-mod}
 use Rattle.bb_bucket.specs.BlockLaws.{block_of}
+use Rattle.bb_bucket.proofs.Marks.{wears_as}
 use Rattle.bb_circular.specs.declared.kept.Kept.{Kept}
 use Rattle.bb_circular.specs.Circular.{IsKeptIn}
 use Rattle.bb_circular.specs.CircularLaws.{entry_fits}
@@ -36,3 +37,19 @@ returns-in_ok-start_anew-clause-inside g c =
     let inside : 0 + len ≤ c.args.block.region.size = omega (arith, fits, c.whole_pages-len.ensures.value) in
     subst (λ (kept : Kept). IsKeptIn c.args.block kept) (sym c.kept_at-else-len-block.ensures)
     (kept_inside c.args.block 0 len inside (zero-mod c.args.block.page) c.whole_pages-len.ensures.pages least)
+
+pub returns-in_err-append-clause-wears : goal.returns-in_err-append-clause-wears
+returns-in_err-append-clause-wears g c =
+    wears_as c.args.block.region true (is_err c.from_residual.result) (g.F.Flash.device c.args.flash.now)
+    (g.F.Flash.device c.append.new.flash) (search rules) c.in_err-append.ensures.wears
+
+pub returns-in_ok-append-clause-wears : goal.returns-in_ok-append-clause-wears
+returns-in_ok-append-clause-wears g c = c.in_ok-append.ensures.wears
+
+pub returns-in_err-start_anew-clause-wears : goal.returns-in_err-start_anew-clause-wears
+returns-in_err-start_anew-clause-wears g c =
+    wears_as c.args.block.region true (is_err c.from_residual-in_err-start_anew.result) (g.F.Flash.device c.args.flash.now)
+    (g.F.Flash.device c.start_anew.new.flash) (search rules) c.in_err-start_anew.ensures.wears
+
+pub returns-in_ok-start_anew-clause-wears : goal.returns-in_ok-start_anew-clause-wears
+returns-in_ok-start_anew-clause-wears g c = c.in_ok-start_anew.ensures.wears

@@ -1,11 +1,13 @@
-use Rattle.std.proofs.Common.{ℕ, ◌+◌, ◌%◌, ◌<◌, ◌≤◌, List, length, take, sym, ap, ◌∙◌, subst, arith, rules}
+use Rattle.std.proofs.Common.{ℕ, ◌+◌, ◌%◌, ◌<◌, ◌≤◌, List, length, take, true, is_err, sym, ap, ◌∙◌, subst, arith, inr, rules}
 use Rattle.std.proofs.lemmas.Grind.{common_steps}
 use Rattle.bb_flash.specs.declared.geometry.Geometry.{Geometry}
 use Rattle.bb_flash.specs.Image.{Image, IsBlank}
 use Rattle.bb_bucket.specs.Blocks.{erased_block}
-use Rattle.bb_bucket.specs.BlockLaws.{block_lies_on, block_of}
+use Rattle.bb_bucket.specs.BlockLaws.{block_lies_on, block_of, whole_block}
 use Rattle.bb_bucket.specs.Kind.{LiesOn, part_of}
+use Rattle.bb_bucket.specs.Marks.{IsInOneBlock}
 use Rattle.bb_bucket.proofs.Erases.{blank_is_blank}
+use Rattle.bb_bucket.proofs.Marks.{wears_as, wears_twice}
 use Rattle.bb_bucket.proofs.Outcomes.{on_ok_weaker}
 use Rattle.bb_bucket.proofs.Runs.{part_after, within_joined}
 use Rattle.bb_circular.specs.CircularLaws.{entry_fits}
@@ -100,3 +102,19 @@ returns-clause-made g c =
     (made_behind_one _ c.program_part.result c.args.block.region (g.F.Flash.device c.args.flash.now)
     (g.F.Flash.device c.erase_block.new.flash) (g.F.Flash.device c.program_part.new.flash)
     c.erase_block.ensures.within.later c.in_ok-erase_block.ensures.made c.program_part.ensures.made)
+
+pub returns-in_err-erase_block-clause-wears : goal.returns-in_err-erase_block-clause-wears
+returns-in_err-erase_block-clause-wears g c =
+    wears_as c.args.block.region true (is_err c.from_residual.result) (g.F.Flash.device c.args.flash.now)
+    (g.F.Flash.device c.erase_block.new.flash) (search rules) c.in_err-erase_block.ensures.wears
+
+pub returns-clause-wears : goal.returns-clause-wears
+returns-clause-wears g c =
+    let from = g.F.Flash.device c.args.flash.now in
+    let mid = g.F.Flash.device c.erase_block.new.flash in
+    let held = block_of c.args.block from.geometry c.requires.held in
+    let alone =
+    subst (λ (geometry : Geometry). IsInOneBlock geometry c.args.block.region) (sym c.erase_block.ensures.within.later.geometry)
+    (inr (whole_block c.args.block from.geometry held)) in
+    wears_twice c.args.block.region _ (is_err c.program_part.result) from mid (g.F.Flash.device c.program_part.new.flash)
+    c.erase_block.ensures.within.later c.program_part.ensures.within.later c.erase_block.ensures.wears (c.program_part.ensures.wears alone)

@@ -1,9 +1,10 @@
-use Rattle.std.proofs.Common.{sym, ap, ◌∙◌, subst, refl, arith}
+use Rattle.std.proofs.Common.{true, is_err, sym, ap, ◌∙◌, subst, refl, arith, rules}
 use Rattle.bb_flash.specs.Image.{Image}
 use Rattle.bb_bucket.specs.Blocks.{erased_block}
 use Rattle.bb_bucket.specs.BlockLaws.{block_of}
 use Rattle.bb_bucket.specs.Calls.{Leaves}
 use Rattle.bb_bucket.proofs.BlockCalls.{void_calls}
+use Rattle.bb_bucket.proofs.Marks.{wears_as}
 use Rattle.bb_bucket.proofs.StrideCalls.{only_one}
 use Rattle.bb_circular.specs.Circular.{circular_kind, kept_of}
 use Rattle.bb_circular.specs.PutLaws.{blank_candidate, blank_kept}
@@ -36,3 +37,11 @@ returns-clause-calls g c =
     let made = c.erase_block.ensures in
     void_calls (circular_kind c.args.block) c.args.block.page (blank_candidate c.args.block.page c.args.block.page c.args.block.region.size)
     (g.F.Flash.device c.args.flash.now) (g.F.Flash.device c.erase_block.new.flash) held (only_one _ _ refl) made.within.later made.within.whole made.changes
+
+pub returns-in_err-erase_block-clause-wears : goal.returns-in_err-erase_block-clause-wears
+returns-in_err-erase_block-clause-wears g c =
+    wears_as c.args.block.region true (is_err c.from_residual.result) (g.F.Flash.device c.args.flash.now)
+    (g.F.Flash.device c.erase_block.new.flash) (search rules) c.in_err-erase_block.ensures.wears
+
+pub returns-clause-wears : goal.returns-clause-wears
+returns-clause-wears g c = c.in_ok-erase_block.ensures.wears

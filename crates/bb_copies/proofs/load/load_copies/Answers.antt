@@ -29,7 +29,7 @@ returns-in_default-clause-load g c =
     let mid : Device = g.F.Flash.device c.look_over.new.flash in
     let k = c.look_over.ensures in
     record {
-      runs = unchanged_runs form kinds from mid k.quiet.told (keeps_of_quiet _ _ k.quiet) k.quiet.later k.quiet.whole;
+      runs = unchanged_runs form kinds from mid k.quiet.told (keeps_of_quiet _ _ k.quiet) k.quiet.later k.quiet.whole k.quiet.broke;
       gives = tt;
       says = tt;
       exact = tt;
@@ -49,7 +49,7 @@ returns-in_default-found-clause-load g c =
     let many : bound ≡ length kinds = sym (length-map c.args.buckets.now.items _) in
     let k = c.look_over.ensures in
     record {
-      runs = unchanged_runs form kinds from mid k.quiet.told (keeps_of_quiet _ _ k.quiet) k.quiet.later k.quiet.whole;
+      runs = unchanged_runs form kinds from mid k.quiet.told (keeps_of_quiet _ _ k.quiet) k.quiet.later k.quiet.whole k.quiet.broke;
       gives =
           none_found form kinds bound good from mid many (keeps_of_quiet _ _ k.quiet).content k.quiet.told c.in-Ok.ensures.faults c.in-Ok.ensures.read_faults
           (λ image e. subst (λ (o : Option FirstCopy). FindsBelow form from.geometry.page kinds bound (front_kept o area) good image (copy_of o)) c.in_default-found.is (c.in-Ok.ensures.done image e));
@@ -107,7 +107,7 @@ returns-in-Ok-settle_all-clause-load g c =
     let all : AllHeld form kinds area now mid to = subst (λ (ks : List BucketKind). PassesAt form ks area used mid → AllHeld form ks area now mid to) k.kinds c.in-Ok-settle_all.ensures.held here in
     record {
       runs =
-          fresh_runs form kinds area from mid to k.quiet.told (keeps_of_quiet _ _ k.quiet) k.quiet.later k.quiet.whole entry run
+          fresh_runs form kinds area from mid to k.quiet.told (keeps_of_quiet _ _ k.quiet) k.quiet.later k.quiet.whole k.quiet.broke entry run
           (never_spared form kinds area used mid to low here (subst (λ (ks : List BucketKind). SparesUsed form ks (Some used) mid to) k.kinds f.spares));
       gives =
           load_gives form kinds area now c.tell-taken.result.used c.tell-taken.result.live from mid to (f.marks ∙ k.marks ∙ c.requires.marks ∙ many) k.quiet.later entry all
@@ -156,7 +156,7 @@ returns-in-Err-clause-load g c =
     let run : Refreshes form kinds area mid to = subst (λ (ks : List BucketKind). Refreshes form ks area mid to) k.kinds f.refreshes in
     record {
       runs =
-          fresh_runs form kinds area from mid to k.quiet.told (keeps_of_quiet _ _ k.quiet) k.quiet.later k.quiet.whole entry run
+          fresh_runs form kinds area from mid to k.quiet.told (keeps_of_quiet _ _ k.quiet) k.quiet.later k.quiet.whole k.quiet.broke entry run
           (never_spared form kinds area used mid to low here (subst (λ (ks : List BucketKind). SparesUsed form ks (Some used) mid to) k.kinds f.spares));
       gives = tt;
       says = tt;

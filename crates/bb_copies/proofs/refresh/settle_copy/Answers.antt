@@ -11,6 +11,7 @@ use Rattle.bb_copies.specs.Settling.{IsRepairWritten}
 use Rattle.bb_copies.proofs.Many.{all_kinds, kind_at, set_agrees, set_kinds, settled_others, settled_refreshes}
 use Rattle.bb_copies.proofs.Placed.{answer_ok, set_places}
 use Rattle.bb_copies.proofs.Settled.{at_copy, settled_at, settled_calm, stuck_at}
+use Rattle.bb_copies.proofs.Wearing.{copies_settled}
 use Rattle.bb_copies.proofs.refresh.settle_copy.Goals as goal
 
 pub settle-settled-requires-clause-serves : goal.settle-settled-requires-clause-serves
@@ -34,6 +35,8 @@ returns-clause-refreshes g c =
     let here = kind_at g.B.Bucket.holding c.args.buckets.now.items c.args.copy _ there in
     settled_refreshes (g.M.Format.form c.args.format.now) (kinds_of g.B.Bucket.holding c.args.buckets.now.items) c.args.area.now c.args.copy (g.B.Bucket.holding c.index_mut.result.now).kind (g.F.Flash.device c.args.flash.now) (g.F.Flash.device c.settle-settled.new.flash)
     (all_kinds g.B.Bucket.holding c.args.buckets.now.items g.met.B.Bucket.laws) c.requires.room.apart c.requires.serves c.requires.whole here c.settle-settled.ensures.settles
+    (copies_settled (g.M.Format.form c.args.format.now) (kinds_of g.B.Bucket.holding c.args.buckets.now.items) c.args.copy (g.B.Bucket.holding c.index_mut.result.now).kind (g.F.Flash.device c.args.flash.now) (g.F.Flash.device c.settle-settled.new.flash)
+    (all_kinds g.B.Bucket.holding c.args.buckets.now.items g.met.B.Bucket.laws) c.requires.room.apart c.requires.serves c.requires.whole here c.settle-settled.ensures.settles.torn c.settle-settled.ensures.wears)
 
 pub returns-clause-others : goal.returns-clause-others
 returns-clause-others g c =

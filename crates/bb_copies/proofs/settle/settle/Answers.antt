@@ -1,9 +1,10 @@
-use Rattle.std.proofs.Common.{◌≡◌, ◌∙◌, ℕ, IsTrue, List, [], ◌∷◌, ap, sym, subst, arith, inl}
+use Rattle.std.proofs.Common.{◌≡◌, ◌∙◌, ℕ, IsTrue, List, [], ◌∷◌, ap, sym, subst, arith, inl, inr}
 use Rattle.bb_base.specs.Faults.{one_more}
 use Rattle.bb_base.specs.Form.{Form}
 use Rattle.bb_base.proofs.Counts.{one_more_rose}
 use Rattle.bb_flash.specs.Device.{Device}
 use Rattle.bb_flash.specs.declared.geometry.Geometry.{Geometry}
+use Rattle.bb_bucket.specs.Calls.{WearsVoid}
 use Rattle.bb_bucket.specs.Kind.{BucketKind}
 use Rattle.bb_flash.proofs.Moments.{later_joined}
 use Rattle.bb_copies.specs.Erasing.{IsBoundedInSum}
@@ -11,6 +12,8 @@ use Rattle.bb_copies.specs.Settling.{IsRepairWritten, twice_more}
 use Rattle.bb_copies.proofs.Bounded.{bounded_then, bounded_voided, bounded_written}
 use Rattle.bb_copies.proofs.Ends.{counts_read, ends_read_as, failed_once, no_look, not_failed, ok_gives, one_more_most, read_most, twice_most, twice_rose, voided_dead, written_good_as, written_once}
 use Rattle.bb_copies.proofs.OneCopy.{settles_joined_as, voided_copy, written_copy_as}
+use Rattle.bb_copies.proofs.Voiding.{void_done, void_done_most, void_failed, void_most_as}
+use Rattle.bb_copies.proofs.Wearing.{copy_of_void, copy_of_write, copy_then_quiet, placed_failed}
 use Rattle.bb_copies.proofs.settle.settle.Goals as goal
 
 pub returns-then-is_ok-clause-ends : goal.returns-then-is_ok-clause-ends
@@ -62,7 +65,7 @@ returns-clause-ends g c =
     let void : Device = g.F.Flash.device c.void.new.flash in
     let to : Device = g.F.Flash.device c.read_back.new.flash in
     let once = failed_once c.write.result from.faults mid.faults (sym c.is_ok.ensures.value ∙ c.if-is_ok.false) c.write.ensures.write.faults in
-    let again = failed_once c.void.result mid.faults void.faults (sym c.is_ok-2.ensures.value ∙ c.if-is_ok-2.false) c.void.ensures.void.faults in
+    let again = void_failed (g.B.Bucket.holding c.write.new.self).kind c.void.result mid void (sym c.is_ok-2.ensures.value ∙ c.if-is_ok-2.false) c.void.ensures.void.faults in
     let twice : void.faults ≡ twice_more from.faults = again ∙ ap one_more once in
     let rose = twice_rose from.faults in
     ends_read_as form (g.B.Bucket.holding c.args.bucket.now).kind (g.B.Bucket.holding c.void.new.self).kind c.args.area.now from void to c.read_back.result (c.void.ensures.kind ∙ c.write.ensures.kind) (later_joined from mid void c.write.ensures.write.within.later c.void.ensures.void.within.later) (omega (arith, twice, rose)) c.read_back.ensures.settles.later c.read_back.ensures.ends
@@ -154,11 +157,11 @@ returns-then-is_ok-2-clause-counts g c =
     let mid : Device = g.F.Flash.device c.write.new.flash in
     let void : Device = g.F.Flash.device c.void.new.flash in
     let once = failed_once c.write.result from.faults mid.faults (sym c.is_ok.ensures.value ∙ c.if-is_ok.false) c.write.ensures.write.faults in
-    let ok = not_failed c.void.result mid.faults void.faults (sym c.is_ok-2.ensures.value ∙ c.if-is_ok-2.true) c.void.ensures.void.faults in
-    inl (record {
-      faults = ok ∙ once;
-      read_faults = c.void.ensures.void.read_faults ∙ no_look _ c.write.result from mid c.requires.placed c.write.ensures.write.read_faults;
-    })
+    let reads = c.void.ensures.void.read_faults ∙ no_look _ c.write.result from mid c.requires.placed c.write.ensures.write.read_faults in
+    elim (void_done (g.B.Bucket.holding c.write.new.self).kind c.void.result mid void (sym c.is_ok-2.ensures.value ∙ c.if-is_ok-2.true) c.void.ensures.void.faults) [
+      | inl same ↦ inl (record { faults = same ∙ once; read_faults = reads })
+      | inr more ↦ inr (record { faults = more ∙ ap one_more once; read_faults = reads })
+    ]
 
 pub returns-clause-counts : goal.returns-clause-counts
 returns-clause-counts g c =
@@ -167,7 +170,7 @@ returns-clause-counts g c =
     let void : Device = g.F.Flash.device c.void.new.flash in
     let to : Device = g.F.Flash.device c.read_back.new.flash in
     let once = failed_once c.write.result from.faults mid.faults (sym c.is_ok.ensures.value ∙ c.if-is_ok.false) c.write.ensures.write.faults in
-    let again = failed_once c.void.result mid.faults void.faults (sym c.is_ok-2.ensures.value ∙ c.if-is_ok-2.false) c.void.ensures.void.faults in
+    let again = void_failed (g.B.Bucket.holding c.write.new.self).kind c.void.result mid void (sym c.is_ok-2.ensures.value ∙ c.if-is_ok-2.false) c.void.ensures.void.faults in
     counts_read (g.B.Bucket.holding c.args.bucket.now).kind c.args.rec.now from void to c.read_back.result
     (record {
       faults = again ∙ ap one_more once;
@@ -193,9 +196,9 @@ returns-then-is_ok-2-clause-bounds g c =
     let v = c.void.ensures.void in
     let kind : BucketKind = (g.B.Bucket.holding c.args.bucket.now).kind in
     let once = failed_once c.write.result from.faults mid.faults (sym c.is_ok.ensures.value ∙ c.if-is_ok.false) w.faults in
-    let ok = not_failed c.void.result mid.faults void.faults (sym c.is_ok-2.ensures.value ∙ c.if-is_ok-2.true) v.faults in
+    let ok = void_done_most (g.B.Bucket.holding c.write.new.self).kind c.void.result mid void (sym c.is_ok-2.ensures.value ∙ c.if-is_ok-2.true) v.faults in
     let most = one_more_most from.faults in
-    bounded_voided kind _ _ c.write.result c.void.result from mid void w.within.later w.made v.made (omega (arith, once, ok, most))
+    bounded_voided kind _ c.write.result from mid void w.within.later w.made (void_most_as (g.B.Bucket.holding c.write.new.self).kind kind mid void c.write.ensures.kind v.most) (omega (arith, once, ok, most))
 
 pub returns-clause-bounds : goal.returns-clause-bounds
 returns-clause-bounds g c =
@@ -207,12 +210,12 @@ returns-clause-bounds g c =
     let v = c.void.ensures.void in
     let kind : BucketKind = (g.B.Bucket.holding c.args.bucket.now).kind in
     let once = failed_once c.write.result from.faults mid.faults (sym c.is_ok.ensures.value ∙ c.if-is_ok.false) w.faults in
-    let again = failed_once c.void.result mid.faults void.faults (sym c.is_ok-2.ensures.value ∙ c.if-is_ok-2.false) v.faults in
+    let again = void_failed (g.B.Bucket.holding c.write.new.self).kind c.void.result mid void (sym c.is_ok-2.ensures.value ∙ c.if-is_ok-2.false) v.faults in
     let twice : void.faults ≡ twice_more from.faults = again ∙ ap one_more once in
     let most = twice_most from.faults in
     let last = read_most void to c.read_back.result c.read_back.ensures.counts in
-    bounded_then (kind ∷ []) c.args.rec.now from void to (later_joined from mid void w.within.later v.within.later) c.read_back.ensures.quiet (omega (arith, twice, most, last))
-    (bounded_voided kind _ _ c.write.result c.void.result from mid void w.within.later w.made v.made (omega (arith, twice, most)))
+    bounded_then (kind ∷ []) c.args.rec.now from void to (later_joined from mid void w.within.later v.within.later) c.read_back.ensures.quiet.told (omega (arith, twice, most, last))
+    (bounded_voided kind _ c.write.result from mid void w.within.later w.made (void_most_as (g.B.Bucket.holding c.write.new.self).kind kind mid void c.write.ensures.kind v.most) (omega (arith, twice, most)))
 
 pub void-requires-clause-serves : goal.void-requires-clause-serves
 void-requires-clause-serves g c =
@@ -228,3 +231,35 @@ read_back-requires-clause-serves g c =
     (subst (λ (k : BucketKind). IsTrue (k.serves mid.geometry)) (sym c.void.ensures.kind)
     (subst (λ (geometry : Geometry). IsTrue ((g.B.Bucket.holding c.write.new.self).kind.serves geometry)) (sym c.write.ensures.write.within.later.geometry)
     (subst (λ (k : BucketKind). IsTrue (k.serves from.geometry)) (sym c.write.ensures.kind) c.requires.serves)))
+
+pub returns-then-is_ok-clause-wears : goal.returns-then-is_ok-clause-wears
+returns-then-is_ok-clause-wears g c =
+    copy_of_write (g.M.Format.form c.args.format.now) (g.B.Bucket.holding c.args.bucket.now).kind _
+    (g.F.Flash.device c.args.flash.now) (g.F.Flash.device c.write.new.flash) c.write.ensures.write.wears
+
+pub returns-then-is_ok-2-clause-wears : goal.returns-then-is_ok-2-clause-wears
+returns-then-is_ok-2-clause-wears g c =
+    let from : Device = g.F.Flash.device c.args.flash.now in
+    let mid : Device = g.F.Flash.device c.write.new.flash in
+    let void : Device = g.F.Flash.device c.void.new.flash in
+    let w = c.write.ensures.write in
+    let v = c.void.ensures.void in
+    copy_of_void (g.M.Format.form c.args.format.now) (g.B.Bucket.holding c.args.bucket.now).kind _ from mid void w.within.later v.within.later
+    (placed_failed (g.B.Bucket.holding c.args.bucket.now).knows_place c.write.result c.requires.placed (sym c.is_ok.ensures.value ∙ c.if-is_ok.false))
+    w.wears (subst (λ (k : BucketKind). WearsVoid k mid void) c.write.ensures.kind v.wears)
+
+pub returns-clause-wears : goal.returns-clause-wears
+returns-clause-wears g c =
+    let form : Form = g.M.Format.form c.args.format.now in
+    let kind : BucketKind = (g.B.Bucket.holding c.args.bucket.now).kind in
+    let from : Device = g.F.Flash.device c.args.flash.now in
+    let mid : Device = g.F.Flash.device c.write.new.flash in
+    let void : Device = g.F.Flash.device c.void.new.flash in
+    let to : Device = g.F.Flash.device c.read_back.new.flash in
+    let w = c.write.ensures.write in
+    let v = c.void.ensures.void in
+    copy_then_quiet form kind from void to (later_joined from mid void w.within.later v.within.later)
+    (copy_of_void form kind _ from mid void w.within.later v.within.later
+    (placed_failed (g.B.Bucket.holding c.args.bucket.now).knows_place c.write.result c.requires.placed (sym c.is_ok.ensures.value ∙ c.if-is_ok.false))
+    w.wears (subst (λ (k : BucketKind). WearsVoid k mid void) c.write.ensures.kind v.wears))
+    c.read_back.ensures.quiet

@@ -1,4 +1,4 @@
-use Rattle.std.proofs.Common.{◌≡◌, ℕ, List, ap, subst, sym, ◌∙◌}
+use Rattle.std.proofs.Common.{◌≡◌, ℕ, List, [], ap, subst, sym, ◌∙◌}
 use Rattle.bb_tree.proofs.Nodes.{branch_of_out}
 use Rattle.bb_tree.specs.Node.{Branch}
 use Rattle.bb_tree.specs.NodeViews.{branch_of}
@@ -19,7 +19,7 @@ invariant_of-result c =
     record {
       facts = record {
         geometry_is = c.requires;
-        copied = rw c.copies.ensures (subst (λ (name : List ℕ). HasCopies c.args.geometry region storage copies (len name)) named c.in_ok-storage.ensures.copies);
+        copied = rw (c.copies.ensures, c.none.ensures) (subst (λ (name : List ℕ). HasCopies c.args.geometry region storage copies [] (len name)) named c.in_ok-storage.ensures.copies);
         area_most = c.in_ok-area_len.ensures.short;
         vars_are = record {
           each = c.in_ok-vars.ensures.well_formed;

@@ -1,6 +1,6 @@
 use Rattle.std.proofs.Common.{◌≤◌, arith, sym, ap, subst, rules}
 use Rattle.bb_flash.specs.declared.region.Region.{Region}
-use Rattle.bb_layout.specs.Copies.{room_for, spacing}
+use Rattle.bb_layout.specs.Copies.{copy_place, room_for, spacing}
 use Rattle.bb_layout.specs.Facts.{is_stride}
 use Rattle.bb_layout.specs.Layout.{fields_of, laid_len}
 use Rattle.bb_layout.specs.declared.storage.Storage.{Storage}
@@ -20,7 +20,7 @@ pub of-requires-in-OneBlock-clause-some : goal.of-requires-in-OneBlock-clause-so
 of-requires-in-OneBlock-clause-some c =
     let facts = c.args.layout.now.facts in
     let at =
-    block_at_copy c.args.layout.now.storage c.args.layout.now.geometry c.args.layout.now.region c.args.layout.now.copies (laid_len (fields_of c.args.layout.now)) c.args.copy facts.geometry_is facts.copied
+    block_at_copy c.args.layout.now.storage c.args.layout.now.geometry c.args.layout.now.region c.args.layout.now.copies c.args.layout.now.places (laid_len (fields_of c.args.layout.now)) (copy_place c.args.layout.now.places c.args.copy) facts.geometry_is facts.copied
     (ap is_stride c.in-OneBlock.is) (ap (spacing c.args.layout.now.geometry) c.in-OneBlock.is) in
     subst (λ (region : Region). c.args.layout.now.geometry.page ≤ region.size) (sym c.region-region.ensures.value) at.page_most
 
@@ -28,7 +28,7 @@ pub of-requires-in-Circular-clause-some : goal.of-requires-in-Circular-clause-so
 of-requires-in-Circular-clause-some c =
     let facts = c.args.layout.now.facts in
     let at =
-    block_at_copy c.args.layout.now.storage c.args.layout.now.geometry c.args.layout.now.region c.args.layout.now.copies (laid_len (fields_of c.args.layout.now)) c.args.copy facts.geometry_is facts.copied
+    block_at_copy c.args.layout.now.storage c.args.layout.now.geometry c.args.layout.now.region c.args.layout.now.copies c.args.layout.now.places (laid_len (fields_of c.args.layout.now)) (copy_place c.args.layout.now.places c.args.copy) facts.geometry_is facts.copied
     (ap is_stride c.in-Circular.is) (ap (spacing c.args.layout.now.geometry) c.in-Circular.is) in
     subst (λ (region : Region). c.args.layout.now.geometry.page ≤ region.size) (sym c.region-region.ensures.value) at.page_most
 

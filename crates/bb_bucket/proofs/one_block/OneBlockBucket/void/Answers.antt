@@ -1,6 +1,7 @@
-use Rattle.std.proofs.Common.{subst}
+use Rattle.std.proofs.Common.{inl, is_err, subst}
 use Rattle.bb_bucket.specs.Calls.{IsBucketVoid}
 use Rattle.bb_bucket.specs.OneBlock.{SeenBlock, one_block_holding, one_block_kind}
+use Rattle.bb_bucket.proofs.Marks.{void_wears}
 use Rattle.bb_bucket.proofs.Outcomes.{void_most}
 use Rattle.bb_bucket.proofs.one_block.OneBlockBucket.void.Goals as goal
 
@@ -18,7 +19,9 @@ returns-clause-void g c =
       calls = v.calls;
       within = v.within;
       erases = v.erases;
-      made = v.made;
-      faults = v.faults;
+      made = λ none. v.made;
+      most = record { most = v.made.most };
+      faults = inl v.faults;
       read_faults = v.read_faults;
+      wears = void_wears (one_block_kind c.self.inside.block) (is_err c.void_block.result) _ _ v.wears;
     }))

@@ -25,6 +25,7 @@ returns-clause-write g c =
       faults = w.faults;
       read_faults = inl w.read_faults;
       reads = λ _. w.reads;
+      wears = w.wears;
     }))
 
 -- a record that may be written has room in the block, and in memory

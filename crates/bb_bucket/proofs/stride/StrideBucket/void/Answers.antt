@@ -1,6 +1,7 @@
-use Rattle.std.proofs.Common.{subst}
+use Rattle.std.proofs.Common.{inl, is_err, subst}
 use Rattle.bb_bucket.specs.Calls.{IsBucketVoid}
 use Rattle.bb_bucket.specs.Stride.{SeenStride, stride_holding, stride_kind}
+use Rattle.bb_bucket.proofs.Marks.{void_wears}
 use Rattle.bb_bucket.proofs.Outcomes.{void_most}
 use Rattle.bb_bucket.proofs.stride.StrideBucket.void.Goals as goal
 
@@ -18,7 +19,9 @@ returns-clause-void g c =
       calls = v.calls;
       within = v.within;
       erases = v.erases;
-      made = v.made;
-      faults = v.faults;
+      made = λ none. v.made;
+      most = record { most = v.made.most };
+      faults = inl v.faults;
       read_faults = v.read_faults;
+      wears = void_wears (stride_kind c.self.inside.region) (is_err c.void_record.result) _ _ v.wears;
     }))

@@ -1,4 +1,4 @@
-use Rattle.std.proofs.Common.{◌≡◌, false, sym, ap, ◌∙◌, subst, IsTrue}
+use Rattle.std.proofs.Common.{◌≡◌, false, inl, sym, ap, ◌∙◌, subst, IsTrue}
 use Rattle.std.proofs.lemmas.Result.{err_from_is_err_and}
 use Rattle.std.specs.Prelude.{is_err}
 use Rattle.bb_flash.specs.declared.geometry.Geometry.{Geometry}
@@ -6,6 +6,7 @@ use Rattle.bb_bucket.specs.declared.block.Block.{Block}
 use Rattle.bb_bucket.specs.Blocks.{is_block_of}
 use Rattle.bb_bucket.specs.BlockLaws.{block_of}
 use Rattle.bb_bucket.specs.Calls.{IsBucketVoid}
+use Rattle.bb_bucket.proofs.Marks.{void_wears}
 use Rattle.bb_bucket.proofs.Outcomes.{void_as, void_most}
 use Rattle.bb_circular.specs.Circular.{Circle, circular_kind}
 use Rattle.bb_circular.proofs.Keeping.{holding_agrees}
@@ -25,9 +26,11 @@ returns-in_err-kept-clause-void g c =
       calls = v.calls;
       within = v.within;
       erases = v.erases;
-      made = v.made;
-      faults = v.faults;
+      made = λ none. v.made;
+      most = record { most = v.made.most };
+      faults = inl v.faults;
       read_faults = v.read_faults;
+      wears = void_wears (circular_kind c.self.inside.block) (is_err c.void_log.result) from to v.wears;
     })))
 
 pub returns-clause-void : goal.returns-clause-void
@@ -45,9 +48,11 @@ returns-clause-void g c =
       calls = v.calls;
       within = v.within;
       erases = v.erases;
-      made = v.made;
-      faults = v.faults;
+      made = λ none. v.made;
+      most = record { most = v.made.most };
+      faults = inl v.faults;
       read_faults = v.read_faults;
+      wears = void_wears (circular_kind c.self.inside.block) (is_err c.void_log.result) from to v.wears;
     })))
 
 pub returns-clause-agrees : goal.returns-clause-agrees

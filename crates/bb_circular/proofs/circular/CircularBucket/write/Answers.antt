@@ -33,6 +33,7 @@ returns-in_err-written-clause-write g c =
       faults = w.faults;
       read_faults = w.read_faults;
       reads = w.reads;
+      wears = w.wears;
     })))
 
 pub returns-clause-write : goal.returns-clause-write
@@ -54,6 +55,7 @@ returns-clause-write g c =
       faults = w.faults;
       read_faults = w.read_faults;
       reads = w.reads;
+      wears = w.wears;
     })))
 
 pub returns-clause-agrees : goal.returns-clause-agrees

@@ -34,7 +34,7 @@ bytes_added c =
     let most = ap (λ log. log.most_bytes) c.self.view_is in
     c.extend_from_slice-3.ensures.succeeds (omega arith)
 
-spans_items : (c : goal.After-extend_from_slice-3) → c.push.new.self.items ≡ c.self.inside.spans.items ++ record { at = c.args.at; bytes = length c.args.bytes.now; pages = length c.args.health.now } ∷ []
+spans_items : (c : goal.After-extend_from_slice-3) → c.push.new.self.items ≡ c.self.inside.spans.items ++ record { at = c.args.at; bytes = length c.args.bytes.now; pages = length c.args.health.now; mark = c.args.mark } ∷ []
 spans_items c = let ok = spans_pushed c in grind (arith, common_steps, c.push.ensures.items)
 
 before_items : (c : goal.After-extend_from_slice-3) → c.extend_from_slice.new.self.items ≡ c.self.inside.before.items ++ c.args.before.now
@@ -62,7 +62,7 @@ invariant_of-self c =
 
 pub returns : goal.returns
 returns c =
-    let saved : SavedCall = record { at = c.args.at; before = c.args.before.now; health = c.args.health.now; bytes = c.args.bytes.now } in
+    let saved : SavedCall = record { at = c.args.at; before = c.args.before.now; health = c.args.health.now; bytes = c.args.bytes.now; mark = c.args.mark } in
     let more = saved_of-more c.self.inside.spans.items c.self.inside.before.items c.self.inside.health.items c.self.inside.bytes.items saved c.requires.range in
     let sum = length-append c.self.inside.bytes.items c.args.bytes.now in
     let s = spans_items c in

@@ -1,9 +1,10 @@
-use Rattle.std.proofs.Common.{◌*◌, rules, sym, subst}
-use Rattle.bb_flash.specs.Calls.{ChangesOnly, erased_bytes}
+use Rattle.std.proofs.Common.{◌*◌, ◌∙◌, ℕ, ap, length, is_err, rules, sym, subst}
+use Rattle.std.proofs.lemmas.List.{length-replicate}
+use Rattle.bb_flash.specs.Calls.{ChangesOnly, IsBreak, erased_bytes}
 use Rattle.bb_flash.specs.Cuts.{IsLater}
-use Rattle.bb_flash.specs.Device.{IsDevice}
+use Rattle.bb_flash.specs.Device.{IsDevice, LeavesStarts}
 use Rattle.bb_flash.specs.Memory.{Memory, device_of}
-use Rattle.bb_flash.proofs.Boards.{erase_changes, erase_later, erase_whole}
+use Rattle.bb_flash.proofs.Boards.{erase_break, erase_changes, erase_faults, erase_later, erase_starts, erase_whole}
 use Rattle.bb_flash.proofs.Moments.{torn_of_call}
 use Rattle.bb_flash.proofs.mem_board.MemBoardFlash.erase.Goals as goal
 
@@ -24,10 +25,19 @@ returns-clause-call c =
           (device_of c.args.self.now) (device_of c.erase_call.new.self) later changes;
       reads = search rules;
       later = later;
-      starts = search rules;
+      starts = subst (λ (m : Memory). LeavesStarts (device_of c.args.self.now) (device_of m))
+          (sym c.erase_call.ensures.after) (erase_starts c.args.self.now c.args.block);
       whole =
           subst (λ (m : Memory). IsDevice (device_of m)) (sym c.erase_call.ensures.after)
           (erase_whole c.args.self.now c.args.block c.erase_call.ensures.whole c.requires);
-      faults = search rules;
+      faults = ap (λ (m : Memory). m.faults) c.erase_call.ensures.after
+          ∙ erase_faults c.args.self.now c.args.block (is_err c.erase_call.result) c.erase_call.ensures.answer;
       read_faults = search rules;
+      breaks = subst (λ (m : Memory). IsBreak (is_err c.erase_call.result)
+          (c.args.block * geometry.block) (length (erased_bytes geometry))
+          (device_of c.args.self.now) (device_of m))
+          (sym c.erase_call.ensures.after)
+          (erase_break c.args.self.now c.args.block (length (erased_bytes geometry))
+          (is_err c.erase_call.result) (length-replicate {A = ℕ} geometry.block 255)
+          c.erase_call.ensures.answer);
     }

@@ -1,9 +1,9 @@
-use Rattle.std.proofs.Common.{rules, sym, subst}
-use Rattle.bb_flash.specs.Calls.{ChangesOnly}
+use Rattle.std.proofs.Common.{◌∙◌, ap, length, is_err, rules, sym, subst}
+use Rattle.bb_flash.specs.Calls.{ChangesOnly, IsBreak}
 use Rattle.bb_flash.specs.Cuts.{IsLater}
-use Rattle.bb_flash.specs.Device.{IsDevice}
+use Rattle.bb_flash.specs.Device.{IsDevice, LeavesStarts}
 use Rattle.bb_flash.specs.Memory.{Memory, device_of}
-use Rattle.bb_flash.proofs.Boards.{program_changes, program_later, program_whole}
+use Rattle.bb_flash.proofs.Boards.{program_break, program_changes, program_faults, program_later, program_starts, program_whole}
 use Rattle.bb_flash.proofs.Moments.{torn_of_call}
 use Rattle.bb_flash.proofs.mem_board.MemBoardFlash.program.Goals as goal
 
@@ -24,11 +24,19 @@ returns-clause-call c =
           (device_of c.program_call.new.self) later changes;
       reads = search rules;
       later = later;
-      starts = search rules;
+      starts = subst (λ (m : Memory). LeavesStarts (device_of c.args.self.now) (device_of m))
+          (sym c.program_call.ensures.after) (program_starts c.args.self.now c.args.at c.args.bytes.now);
       whole =
           subst (λ (m : Memory). IsDevice (device_of m)) (sym c.program_call.ensures.after)
           (program_whole c.args.self.now c.args.at c.args.bytes.now c.program_call.ensures.whole
           c.requires);
-      faults = search rules;
+      faults = ap (λ (m : Memory). m.faults) c.program_call.ensures.after
+          ∙ program_faults c.args.self.now c.args.at c.args.bytes.now
+          (is_err c.program_call.result) c.program_call.ensures.answer;
       read_faults = search rules;
+      breaks = subst (λ (m : Memory). IsBreak (is_err c.program_call.result) c.args.at
+          (length c.args.bytes.now) (device_of c.args.self.now) (device_of m))
+          (sym c.program_call.ensures.after)
+          (program_break c.args.self.now c.args.at c.args.bytes.now (is_err c.program_call.result)
+          c.program_call.ensures.answer);
     }

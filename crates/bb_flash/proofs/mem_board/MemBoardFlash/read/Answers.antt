@@ -15,4 +15,5 @@ returns-clause-call c = record {
   faults = search rules;
   read_faults = search rules;
   start_faults = search rules;
+  breaks = search rules;
 }

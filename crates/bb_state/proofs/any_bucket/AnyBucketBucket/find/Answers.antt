@@ -47,3 +47,29 @@ returns-in-Circular-clause-done g c =
     IsFoundOf ((any_holding bucket).kind.candidate_of (part_of page (any_holding bucket).kind.region image))
     ((any_holding bucket).kind.is_worn (part_of page (any_holding bucket).kind.region image)) found))) (sym c.in-Circular.is)
     c.find-in-Circular.ensures.done
+
+pub find-requires-in-SparedOneBlock-clause-agreed : goal.find-requires-in-SparedOneBlock-clause-agreed
+unfolding any_holding
+find-requires-in-SparedOneBlock-clause-agreed g c = subst (λ (bucket : AnyBucket). Agrees (any_holding bucket) (g.F.Flash.device c.args.flash.now)) c.in-SparedOneBlock.is c.requires.agreed
+
+pub returns-in-SparedOneBlock-clause-done : goal.returns-in-SparedOneBlock-clause-done
+unfolding any_holding
+returns-in-SparedOneBlock-clause-done g c =
+    let page : ℕ = (g.F.Flash.device c.args.flash.now).geometry.page in
+    subst (λ (bucket : AnyBucket). IfOk c.find-in-SparedOneBlock.result (λ (found : Found). ForSome (content (g.F.Flash.device c.args.flash.now)) (λ (image : Image).
+    IsFoundOf ((any_holding bucket).kind.candidate_of (part_of page (any_holding bucket).kind.region image))
+    ((any_holding bucket).kind.is_worn (part_of page (any_holding bucket).kind.region image)) found))) (sym c.in-SparedOneBlock.is)
+    c.find-in-SparedOneBlock.ensures.done
+
+pub find-requires-in-SparedCircular-clause-agreed : goal.find-requires-in-SparedCircular-clause-agreed
+unfolding any_holding
+find-requires-in-SparedCircular-clause-agreed g c = subst (λ (bucket : AnyBucket). Agrees (any_holding bucket) (g.F.Flash.device c.args.flash.now)) c.in-SparedCircular.is c.requires.agreed
+
+pub returns-in-SparedCircular-clause-done : goal.returns-in-SparedCircular-clause-done
+unfolding any_holding
+returns-in-SparedCircular-clause-done g c =
+    let page : ℕ = (g.F.Flash.device c.args.flash.now).geometry.page in
+    subst (λ (bucket : AnyBucket). IfOk c.find-in-SparedCircular.result (λ (found : Found). ForSome (content (g.F.Flash.device c.args.flash.now)) (λ (image : Image).
+    IsFoundOf ((any_holding bucket).kind.candidate_of (part_of page (any_holding bucket).kind.region image))
+    ((any_holding bucket).kind.is_worn (part_of page (any_holding bucket).kind.region image)) found))) (sym c.in-SparedCircular.is)
+    c.find-in-SparedCircular.ensures.done

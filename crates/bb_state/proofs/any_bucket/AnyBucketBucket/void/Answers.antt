@@ -33,3 +33,23 @@ unfolding any_holding
 returns-in-Circular-clause-void g c =
     subst (λ (bucket : AnyBucket). IsBucketVoid (any_holding bucket).kind (g.F.Flash.device c.args.flash.now) (g.F.Flash.device c.void-in-Circular.new.flash) c.void-in-Circular.result)
     (sym c.in-Circular.is) c.void-in-Circular.ensures.void
+
+pub void-requires-in-SparedOneBlock-clause-agreed : goal.void-requires-in-SparedOneBlock-clause-agreed
+unfolding any_holding
+void-requires-in-SparedOneBlock-clause-agreed g c = subst (λ (bucket : AnyBucket). Agrees (any_holding bucket) (g.F.Flash.device c.args.flash.now)) c.in-SparedOneBlock.is c.requires.agreed
+
+pub returns-in-SparedOneBlock-clause-void : goal.returns-in-SparedOneBlock-clause-void
+unfolding any_holding
+returns-in-SparedOneBlock-clause-void g c =
+    subst (λ (bucket : AnyBucket). IsBucketVoid (any_holding bucket).kind (g.F.Flash.device c.args.flash.now) (g.F.Flash.device c.void-in-SparedOneBlock.new.flash) c.void-in-SparedOneBlock.result)
+    (sym c.in-SparedOneBlock.is) c.void-in-SparedOneBlock.ensures.void
+
+pub void-requires-in-SparedCircular-clause-agreed : goal.void-requires-in-SparedCircular-clause-agreed
+unfolding any_holding
+void-requires-in-SparedCircular-clause-agreed g c = subst (λ (bucket : AnyBucket). Agrees (any_holding bucket) (g.F.Flash.device c.args.flash.now)) c.in-SparedCircular.is c.requires.agreed
+
+pub returns-in-SparedCircular-clause-void : goal.returns-in-SparedCircular-clause-void
+unfolding any_holding
+returns-in-SparedCircular-clause-void g c =
+    subst (λ (bucket : AnyBucket). IsBucketVoid (any_holding bucket).kind (g.F.Flash.device c.args.flash.now) (g.F.Flash.device c.void-in-SparedCircular.new.flash) c.void-in-SparedCircular.result)
+    (sym c.in-SparedCircular.is) c.void-in-SparedCircular.ensures.void

@@ -33,3 +33,23 @@ unfolding any_holding
 returns-in-Circular-clause-write g c =
     subst (λ (bucket : AnyBucket). IsBucketWrite (any_holding bucket).kind (any_holding bucket).knows_place c.args.rec.now (g.F.Flash.device c.args.flash.now) (g.F.Flash.device c.write-in-Circular.new.flash) c.write-in-Circular.result)
     (sym c.in-Circular.is) c.write-in-Circular.ensures.write
+
+pub write-requires-in-SparedOneBlock-clause-agreed : goal.write-requires-in-SparedOneBlock-clause-agreed
+unfolding any_holding
+write-requires-in-SparedOneBlock-clause-agreed g c = subst (λ (bucket : AnyBucket). Agrees (any_holding bucket) (g.F.Flash.device c.args.flash.now)) c.in-SparedOneBlock.is c.requires.agreed
+
+pub returns-in-SparedOneBlock-clause-write : goal.returns-in-SparedOneBlock-clause-write
+unfolding any_holding
+returns-in-SparedOneBlock-clause-write g c =
+    subst (λ (bucket : AnyBucket). IsBucketWrite (any_holding bucket).kind (any_holding bucket).knows_place c.args.rec.now (g.F.Flash.device c.args.flash.now) (g.F.Flash.device c.write-in-SparedOneBlock.new.flash) c.write-in-SparedOneBlock.result)
+    (sym c.in-SparedOneBlock.is) c.write-in-SparedOneBlock.ensures.write
+
+pub write-requires-in-SparedCircular-clause-agreed : goal.write-requires-in-SparedCircular-clause-agreed
+unfolding any_holding
+write-requires-in-SparedCircular-clause-agreed g c = subst (λ (bucket : AnyBucket). Agrees (any_holding bucket) (g.F.Flash.device c.args.flash.now)) c.in-SparedCircular.is c.requires.agreed
+
+pub returns-in-SparedCircular-clause-write : goal.returns-in-SparedCircular-clause-write
+unfolding any_holding
+returns-in-SparedCircular-clause-write g c =
+    subst (λ (bucket : AnyBucket). IsBucketWrite (any_holding bucket).kind (any_holding bucket).knows_place c.args.rec.now (g.F.Flash.device c.args.flash.now) (g.F.Flash.device c.write-in-SparedCircular.new.flash) c.write-in-SparedCircular.result)
+    (sym c.in-SparedCircular.is) c.write-in-SparedCircular.ensures.write

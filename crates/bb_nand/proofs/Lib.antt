@@ -1,0 +1,3 @@
+-- Lemmas.
+mod Marking
+mod Surveying

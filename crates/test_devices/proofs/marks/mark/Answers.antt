@@ -1,0 +1,9 @@
+use Rattle.std.proofs.Common.{arith, subst, sym}
+use Rattle.bb_flash.specs.Calls.{CanErase}
+use Rattle.bb_flash.specs.declared.geometry.Geometry.{Geometry}
+use Rattle.test_devices.proofs.marks.mark.Goals as goal
+
+pub mark-requires : goal.mark-requires
+mark-requires c =
+    subst (λ (geometry : Geometry). CanErase geometry c.args.block) (sym c.requires.small)
+    (record { blocks = omega arith; inside = c.requires.inside })
