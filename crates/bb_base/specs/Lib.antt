@@ -7,6 +7,7 @@ pub mod Form
 pub mod Number
 pub mod SinkRecord
 pub mod Refusals
--- Inside: files and an output in memory, on which tests stand.
+-- Inside: where the bytes of a text stand, and files and an output in memory, on which tests stand.
+pub mod Letters
 pub mod MemFiles
 pub mod MemSink

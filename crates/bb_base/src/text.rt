@@ -1,23 +1,28 @@
-ghost use Rattle.std.specs.Prelude.{◌≡◌, IfOk};
+ghost use Rattle.std.specs.Prelude.{◌≡◌, ◌+◌, ◌≤◌, IfOk, length, take, drop};
+ghost use Rattle.std.specs.Str.{IsAscii};
 
-use crate::NoMemory;
+use crate::letters::Letters;
+use crate::{NoMemory, SharedText};
 use std::alloc::Global;
 use std::marker::Model;
 
-/// A text in UTF-8 that owns its memory. Clauses see the list of its bytes.
+/// A text in UTF-8. It owns its memory, or it is a part of a text that several share. Clauses see
+/// the list of its bytes.
 #[derive(Debug, Drop)]
 pub struct Text {
     alloc: Global,
-    inner: String,
+    inner: Letters,
 }
 
 impl Model for Text {
     ghost use Rattle.std.specs.Prelude.{List, ℕ};
-    ghost use Rattle.std.specs.String.{string_bytes};
+    ghost use Rattle.bb_base.specs.Letters.{bytes_in, IsInside};
 
     ghost Value = { List ℕ };
 
-    ghost view = { λ t. string_bytes t.inner };
+    ghost view = { λ t. bytes_in t.inner };
+
+    ghost invariant = { λ t. IsInside t.inner };
 }
 
 impl Text {
@@ -25,7 +30,18 @@ impl Text {
     pub fn of(alloc: Global, text: &str) -> Result<Text, NoMemory>
         ensures { IfOk result (λ copy. copy ≡ text.now) }
     {
-        let inner = String::from_str(alloc, text)?;
+        let inner = Letters::Own(String::from_str(alloc, text)?);
+        Ok(Text { alloc, inner })
+    }
+
+    /// A part of a text that is ASCII: `len` bytes from the place `at` on. It takes no memory of
+    /// its own.
+    pub fn part(alloc: Global, whole: &SharedText, at: usize, len: usize) -> Result<Text, NoMemory>
+        requires plain { IsAscii whole.now }
+        requires within { at + len ≤ length whole.now }
+        ensures { IfOk result (λ part. part ≡ take len (drop at whole.now)) }
+    {
+        let inner = Letters::Part(whole.another()?, at, len);
         Ok(Text { alloc, inner })
     }
 
@@ -36,10 +52,14 @@ impl Text {
         self.inner.as_str()
     }
 
-    /// A copy in memory of its own.
+    /// A copy. A part of a shared text takes no memory of its own.
     pub fn copy(&self) -> Result<Text, NoMemory>
         ensures { IfOk result (λ copy. copy ≡ self.now) }
     {
-        Text::of(self.alloc, self.as_str())
+        let inner = self.inner.copy(self.alloc)?;
+        Ok(Text {
+            alloc: self.alloc,
+            inner,
+        })
     }
 }

@@ -4,6 +4,7 @@ pub mod WalkLemmas
 pub mod NameLemmas
 pub mod PairLemmas
 pub mod NamesLemmas
+pub mod TableLemmas
 pub mod WriteLemmas
 pub mod BackTokens
 pub mod BackNodes

@@ -7,6 +7,7 @@ pub mod Walk
 pub mod Reading
 pub mod Refusals
 pub mod Laws
--- inside: the walk in the pieces in which private functions go through it, and a table of names
+-- inside: the walk in the pieces in which private functions go through it, and tables of names
 pub mod Descent
 pub mod Names
+pub mod NameTable

@@ -9,6 +9,7 @@ mod header;
 mod input;
 mod law;
 mod name;
+mod name_table;
 mod names;
 mod next_token;
 mod node;

@@ -1,7 +1,7 @@
-ghost use Rattle.std.specs.Prelude.{◌≡◌, ◌==◌, true, IfOk, IfSome};
+ghost use Rattle.std.specs.Prelude.{◌≡◌, ◌==◌, true, IfOk};
 ghost use Rattle.std.specs.List.{position_or_len};
 ghost use Rattle.std.specs.Option.{option_map};
-ghost use Rattle.bb_fdt.specs.Tokens.{up_to_zero, is_name, string_at};
+ghost use Rattle.bb_fdt.specs.Tokens.{up_to_zero, is_name};
 
 use bb_base::{NoMemory, Text};
 use std::alloc::Global;
@@ -36,20 +36,6 @@ pub(crate) fn is_name(name: &[u8]) -> bool
         }
     }
     !name.is_empty()
-}
-
-/// The name that begins there in the strings block.
-#[tactic(auto, unfolding(crate::specs::Tokens::string_at))]
-pub(crate) fn name_in(strings: &[u8], at: u32) -> Option<&[u8]>
-    ensures name { option_map (λ name. name.now) result ≡ string_at strings.now at }
-    ensures fits { IfSome result (λ name. is_name name.now ≡ true) }
-{
-    let at = at as usize;
-    if strings.len() <= at {
-        return None;
-    }
-    let name = up_to_zero(strings.split_at(at).1)?;
-    if is_name(name) { Some(name) } else { None }
 }
 
 /// A copy of a name as text.

@@ -4,10 +4,12 @@ ghost use Rattle.bb_tree.specs.NodeViews.{branch_of};
 ghost use Rattle.bb_fdt.specs.Walk.{Inside, open_node, node_of_open, child_name, prop_name};
 ghost use Rattle.bb_fdt.specs.Descent.{block_walk, walk_after_node_read, open_of, RefusesResult};
 ghost use Rattle.bb_fdt.specs.Descent.{RefusesWalk};
+ghost use Rattle.bb_fdt.specs.NameTable.{IsTableOf};
 
 use crate::FdtError;
 use crate::input::Input;
-use crate::name::{is_name, name_in, name_text};
+use crate::name::{is_name, name_text};
+use crate::name_table::NameTable;
 use crate::next_token::{Found, next_token};
 use crate::token_kind::TokenKind;
 use bb_base::{Bytes, Text};
@@ -17,12 +19,14 @@ use bb_tree::{DEPTH_LIMIT, Node, NodeList, Prop, PropList};
 #[tactic(auto, using(crate::proofs::WalkLemmas::item_step, crate::proofs::WalkLemmas::inside_after_node, crate::proofs::WalkLemmas::inside_refusal_walk, crate::proofs::WalkLemmas::inside_unless_memory))]
 pub(crate) fn read_node<'a>(
     input: Input<'_>,
+    names: &NameTable,
     level: usize,
     name: Text,
     text: &'a [u8],
 ) -> Result<(Node, &'a [u8]), FdtError>
     requires within { length text.now ≤ input.end }
     requires shallow { level ≤ depth_limit }
+    requires named { IsTableOf names.now input.entry.strings.now }
     ensures ok { IfOk result (λ r. block_walk input.entry (Inside (open_node level name)) text.now
         ≡ walk_after_node_read input.entry r.0 r.1.now) }
     ensures refused { IfErr result
@@ -37,12 +41,12 @@ pub(crate) fn read_node<'a>(
         match token.kind {
             TokenKind::BeginNode => {
                 let name = child_name(input, level, &token)?;
-                let (child, behind) = read_node(input, level + 1, name, token.rest)?;
+                let (child, behind) = read_node(input, names, level + 1, name, token.rest)?;
                 nodes.push(child)?;
                 rest = behind;
             }
             TokenKind::Property => {
-                props.push(read_prop(input, &token)?)?;
+                props.push(read_prop(input, names, &token)?)?;
                 rest = token.rest;
             }
             TokenKind::EndNode => return Ok((node_of_open(level, name, props, nodes), token.rest)),
@@ -72,17 +76,17 @@ fn child_name(input: Input<'_>, level: usize, token: &Found<'_>) -> Result<Text,
     Ok(name_text(input.alloc, token.bytes)?)
 }
 
-fn read_prop(input: Input<'_>, token: &Found<'_>) -> Result<Prop, FdtError>
+fn read_prop(input: Input<'_>, names: &NameTable, token: &Found<'_>) -> Result<Prop, FdtError>
+    requires { IsTableOf names.now input.entry.strings.now }
     ensures name { IfOk result
         (λ prop. prop_name token.now.at input.entry.strings.now token.now.name_at ≡ Ok prop.name) }
     ensures value { IfOk result (λ prop. prop.value ≡ token.now.bytes.now) }
     ensures refused { IfErr result
         (RefusesResult (prop_name token.now.at input.entry.strings.now token.now.name_at)) }
 {
-    let Some(name) = name_in(input.strings, token.name_at) else {
+    let Some(name) = names.name_at(input, token.name_at)? else {
         return Err(FdtError::BadName(token.at));
     };
-    let name = name_text(input.alloc, name)?;
     let mut value = Bytes::none(input.alloc);
     value.add(token.bytes)?;
     Ok(Prop { name, value })

@@ -3,12 +3,14 @@ ghost use Rattle.bb_tree.specs.Blob.{devicetree_of};
 ghost use Rattle.bb_tree.specs.NodeViews.{branch_of};
 ghost use Rattle.bb_fdt.specs.Walk.{Before, Inside, open_node};
 ghost use Rattle.bb_fdt.specs.Descent.{block_walk, walk_after_node_read, RefusesResult};
+ghost use Rattle.bb_fdt.specs.NameTable.{IsTableOf};
 ghost use Rattle.bb_fdt.specs.Refusals.{Refuses};
 ghost use Rattle.bb_fdt.specs.Reading.{blob_of, part, root_in};
 
 use crate::FdtError;
 use crate::header::{Header, read_header};
 use crate::input::Input;
+use crate::name_table::NameTable;
 use crate::next_token::next_token;
 use crate::node::read_node;
 use crate::reserved::read_reserved;
@@ -57,7 +59,9 @@ fn read_root(alloc: Global, header: &Header, blob: &[u8]) -> Result<Node, FdtErr
         strings,
         end,
     };
-    read_structure(input, part(blob, header.struct_at, header.struct_len))
+    let names = NameTable::of(alloc, strings)?;
+    let text = part(blob, header.struct_at, header.struct_len);
+    read_structure(input, &names, text)
 }
 
 fn part(blob: &[u8], at: u32, len: u32) -> &[u8]
@@ -67,15 +71,16 @@ fn part(blob: &[u8], at: u32, len: u32) -> &[u8]
     blob.split_at(at as usize).1.split_at(len as usize).0
 }
 
-fn read_structure(input: Input<'_>, text: &[u8]) -> Result<Node, FdtError>
-    requires { length text.now ≤ input.end }
+fn read_structure(input: Input<'_>, names: &NameTable, text: &[u8]) -> Result<Node, FdtError>
+    requires within { length text.now ≤ input.end }
+    requires named { IsTableOf names.now input.entry.strings.now }
     ensures ok { IfOk result
         (λ root. block_walk input.entry Before text.now [] ≡ Ok (branch_of root)) }
     ensures refused { IfErr result (RefusesResult (block_walk input.entry Before text.now [])) }
 {
     let text = read_begin(input, text)?;
     let name = Text::of(input.alloc, "")?;
-    let (root, rest) = read_node(input, 1, name, text)?;
+    let (root, rest) = read_node(input, names, 1, name, text)?;
     read_end(input, root, rest)
 }
 
