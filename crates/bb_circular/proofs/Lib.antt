@@ -5,4 +5,5 @@ pub mod LogCalls
 pub mod LogDevices
 pub mod LogMaking
 pub mod Looks
+pub mod Shifting
 pub mod Wearing

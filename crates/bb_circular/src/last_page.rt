@@ -63,10 +63,16 @@ fn is_blank(bytes: &[u8], health: Health) -> bool
     !is_lost(health) && holds_no_zero_bit(bytes)
 }
 
+// Each byte is 0xFF where the first one is, and each other is as the one before it. Slices are
+// compared many bytes at a time.
+#[tactic(auto, using(crate::proofs::Shifting::all_ones))]
 fn holds_no_zero_bit(bytes: &[u8]) -> bool
     ensures { result ≡ list_all (λ byte. byte == 255) bytes.now }
 {
-    bytes.iter().all(|byte| *byte == 0xFF)
+    let [first, rest @ ..] = bytes else {
+        return true;
+    };
+    *first == 0xFF && *rest == bytes[..rest.len()]
 }
 
 pub(crate) fn is_lost(health: Health) -> bool
