@@ -25,6 +25,7 @@ mod prop_list;
 mod resolve;
 mod slot;
 mod survey;
+mod table;
 mod taken;
 mod tree;
 mod tree_error;
