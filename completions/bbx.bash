@@ -8,8 +8,8 @@
 # The commands, how many words stand before their options where these can't come anywhere, the
 # options, and what completes the value of each: written by tests/style/commands.
 # begin words
-_bbx_first="--plan= --read-only --explain"
-_bbx_commands="raw state mark-good boot shell menu drill"
+_bbx_first="--plan= --read-only --explain --progress"
+_bbx_commands="raw state mark-good boot shell install verify history menu drill"
 declare -gA _bbx_before=() _bbx_options=() _bbx_values=()
 _bbx_before[raw]=2
 _bbx_options[raw]="-g -s"
@@ -17,6 +17,9 @@ _bbx_options[state]="-i --input -n --name -k -s --set -g --get -d --dump --dump-
 _bbx_options[mark-good]="-i --input -c -n --name -k"
 _bbx_options[boot]="-i --input -c -n --name -k --cause"
 _bbx_options[shell]="-i --input -c -x -n --name -k --cause"
+_bbx_options[install]="-i --input -c -t -p -f --sha256 -n --name -k"
+_bbx_options[verify]="-i --input -p -f -n --name"
+_bbx_options[history]="-i --input -n --name -k"
 _bbx_options[menu]="--dir"
 _bbx_before[drill]=2
 _bbx_options[drill]=""
@@ -32,6 +35,10 @@ _bbx_values[--get]="variables"
 _bbx_values[-c]="files"
 _bbx_values[--cause]="power-on reset other"
 _bbx_values[-x]="files"
+_bbx_values[-t]=""
+_bbx_values[-p]=""
+_bbx_values[-f]="files"
+_bbx_values[--sha256]=""
 _bbx_values[--dir]="files"
 # end words
 
@@ -138,7 +145,7 @@ _bbx() {
   [ -n "$before" ] || before=${words[-2]}
   case ${#words[@]} in
     2)
-      [[ $word != --p* ]] || compopt -o nospace
+      [[ $word != --p && $word != --pl* ]] || compopt -o nospace
       if [[ $word == -* ]]; then _bbx_answer '' <<<"${in_front// /$'\n'}"; else _bbx_files; fi
       return
       ;;

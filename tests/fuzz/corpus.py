@@ -52,7 +52,8 @@ class Case:
         others = [read_if(f'{folder}/{name}') for name in ('errors', 'plan', 'output')]
         self.errors, self.plan, output = others
         self.output = output.decode().strip() if output else 'kept'
-        self.is_limited = os.path.exists(f'{folder}/limit')
+        limit = read_if(f'{folder}/limit')
+        self.limit = int(limit) * 1024 if limit else None
         if os.path.exists(f'{folder}/grow'):
             name, size, *byte = read(f'{folder}/grow').split()
             byte = bytes([int(byte[0], 16)]) if byte else b'\0'

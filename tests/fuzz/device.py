@@ -5,7 +5,6 @@ import zlib
 
 from layout import LOG_WORD, STRIDE_HEADER, code, raw_record
 from tree import Refused, read_blob
-from values import number
 
 
 # A boot with `retry` has as many rounds as there are attempts, which are up to 4,294,967,295.
@@ -51,16 +50,16 @@ def candidate(layout, region):
 
 
 def passes(layout, record, key):
-    """The area that a record's bytes pass as, None for none."""
+    """The area that a record's bytes pass as, as long as it is stored, None for none."""
     if layout.type == b'dtb':
         return passes_as_blob(layout, record)
-    if len(record) < 16 + layout.area:
+    if len(record) < 16:
         return None
     magic, _, length, data_crc, header_crc = struct.unpack('<IHHII', record[:16])
-    area = record[16:16 + layout.area]
-    if magic != layout.magic or length != layout.area or header_crc != zlib.crc32(record[:12]):
+    end = 16 + length
+    area = record[16:end]
+    if magic != layout.magic or header_crc != zlib.crc32(record[:12]) or len(area) < length:
         return None
-    end = 16 + layout.area
     is_coded = not layout.keyed or record[end:end + 32] == code(key, record[:end])
     return area if data_crc == zlib.crc32(area) and is_coded else None
 
@@ -84,6 +83,15 @@ def passes_as_blob(layout, record):
     return bytes(area) if layout.record(bytes(area), None) == record else None
 
 
+def converted(layout, area):
+    """What a layout reads in an area that is stored, of any length."""
+    table = bytearray(area[:layout.area].ljust(layout.area, b'\0'))
+    for var in layout.vars:
+        if var.at + var.size > len(area):
+            table[var.at:var.at + var.size] = var.default
+    return bytes(table)
+
+
 def passing(layout, device, key):
     """What each copy passes."""
     found = []
@@ -92,6 +100,27 @@ def passing(layout, device, key):
         record = candidate(layout, device[start:end])
         found.append(None if record is None else passes(layout, record, key))
     return found
+
+
+def history(layout, device, key):
+    """What each copy's region holds that passes, oldest first, as it is stored."""
+    if layout.storage != 'log':
+        return [[] if area is None else [area] for area in passing(layout, device, key)]
+    regions = [device[slice(*layout.region(copy))] for copy in range(layout.copies)]
+    found = [[passes(layout, record, key) for record in logged(layout, region)] for region in regions]
+    return [[area for area in areas if area is not None] for areas in found]
+
+
+def logged(layout, region):
+    """The records in a log, oldest first. A page that ends none is passed over alone."""
+    page, end, records = layout.geometry[0], len(region), []
+    while end:
+        magic, length = struct.unpack('<II', region[end - 8:end])
+        is_end = magic == LOG_WORD and length % page == 0 and 0 < length <= end
+        if is_end:
+            records.insert(0, region[end - length:end - 8])
+        end -= length if is_end else page
+    return records
 
 
 class Table:
@@ -157,9 +186,7 @@ class Targets:
         return [self.get(f'{target}.{what}') for target in self.settings.targets]
 
     def worth(self, kind, target=None):
-        values = self.settings.values
-        otherwise = {'default_attempts': '3', 'default_priority': '1'}.get(kind, '0')
-        return number(values.get(f'{target}.{kind}', values.get(kind, otherwise)))
+        return self.settings.worth(kind, target)
 
     def reset(self, cause):
         events = self.settings.values.get('reset_attempts', '').split(' ')

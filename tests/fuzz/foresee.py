@@ -1,10 +1,12 @@
 """What a session does up to its device, by docs/FORMATS.md: the refusal that it ends with, or what
 it then knows. It reads the files of the folder that the program runs in."""
+import hashlib
 import os
 import stat
 
 from layout import Layout
 from script import BadScript, Reader
+from slot import Slot
 from source import read_tree
 from tree import Refused, Unsure
 from values import is_utf8
@@ -32,6 +34,7 @@ class Foreseen:
         self.call, self.ends, self.sure = call, None, True
         self.opened = self.cleared = False
         self.command = self.layout = self.settings = self.key = self.menu = self.steps = None
+        self.slot = self.image = None
         self.plans = {}
         try:
             self.run()
@@ -158,7 +161,7 @@ class Foreseen:
             self.layout = Layout(tree, None if name is None else name.encode(), self.call.geometry)
         except Refused as refused:
             raise Ends(3, *[f'BadLayout {line}' for line in refused.lines]) from None
-        if self.layout.keyed:
+        if self.layout.keyed and self.command.name != 'verify':
             if 'k' not in given:
                 raise Ends(17, 'BadKey None')
             self.key = key_of(self.named_file(given['k']))
@@ -167,6 +170,8 @@ class Foreseen:
         self.foresee_variables()
         if 'c' in given:
             self.foresee_targets(given['c'])
+        if 'f' in given:
+            self.foresee_image(tree)
 
     def foresee_variables(self):
         by_name = {var.name: var for var in self.layout.vars}
@@ -194,6 +199,22 @@ class Foreseen:
         path = self.plan_path()
         if is_folder(path) or is_folder(path + '.new') or not has_place(path + '.new'):
             self.plans = dict.fromkeys(self.plans, [])
+
+    def foresee_image(self, tree):
+        given = self.command.given
+        target, digest = given.get('t'), given.get('sha256')
+        if target is not None and target not in self.settings.targets:
+            raise Ends(22, f'BadTarget {target}')
+        try:
+            self.slot = Slot(tree, given['p'].encode(), self.layout)
+        except Refused as refused:
+            raise Ends(23, *[f'BadSlot {line}' for line in refused.lines]) from None
+        self.image = self.named_file(given['f'])
+        if len(self.image) > self.slot.size:
+            raise Ends(25, f'ImageTooLong {len(self.image)}')
+        found = hashlib.sha256(self.image).hexdigest()
+        if digest is not None and digest.lower() != found:
+            raise Ends(24, f'BadDigest {found}')
 
     def foresee_script(self, name):
         try:

@@ -6,6 +6,7 @@ import shutil
 import sys
 import tempfile
 from collections import Counter
+from copy import copy
 
 from corpus import Corpus
 from device import TooManyRounds
@@ -13,11 +14,13 @@ from folder import all_files, content, furnish, put_back
 from judge import judge, prepare, shown
 from machine import Machine
 from make import Maker
+from slot import DEFAULTS
 from words import Call
 
 # The findings of which the files are kept.
 KEPT = 40
-COMMANDS = ('raw', 'state', 'mark-good', 'boot', 'shell', 'menu', 'drill')
+COMMANDS = ('raw', 'state', 'mark-good', 'boot', 'shell', 'install', 'verify', 'history', 'menu',
+            'drill')
 PLAIN = set(b'abcdefghijklmnopqrstuvwxyzABCDEFGHIJKLMNOPQRSTUVWXYZ0123456789_./:=,@%+-')
 
 
@@ -44,6 +47,7 @@ class Fuzz:
             put_back(places[0], before)
             put_back(places[1], plan)
             says += self.try_again(run, wanted, got, places)
+            says += self.try_boot(run, wanted, places)
         self.count(wanted, got)
         if says:
             self.tell(number, run, says)
@@ -62,8 +66,7 @@ class Fuzz:
         for name, _ in known:
             words += [b'-g', name]
         text = b''.join(value + b'\n' for _, value in known)
-        run.output = 'kept'
-        after = self.machine.run(run, words, Call(words), places)
+        after = self.machine.run(following(run, words), words, Call(words), places)
         if after.fault:
             yield f'a next look: {after.fault}'
         elif (after.status, after.text) != (0, text):
@@ -71,6 +74,26 @@ class Fuzz:
                    f' and not 0 and {shown(text)}')
         elif after.device != again.device:
             yield 'a next look writes'
+
+    def try_boot(self, run, wanted, places):
+        """A boot after an install. It takes the target only where its slot is untouched or whole."""
+        foreseen = wanted.foreseen
+        words = next_words(run, wanted, 'boot', 'inkc')
+        if wanted.install is None or words is None:
+            return
+        slot, whole = foreseen.slot, wanted.held(foreseen.slot.steps(foreseen.image))
+        run = following(run, words)
+        try:
+            next_wanted, next_places = prepare(run)
+        except TooManyRounds:
+            return
+        before, plan = map(content, next_places)
+        got = self.machine.run(run, words, next_wanted.foreseen.call, next_places)
+        for line in judge(run, next_wanted, got, before, plan):
+            yield f'a next boot: {line}'
+        is_started = got.text.startswith(f'start {foreseen.command.given["t"]} '.encode())
+        if is_started and before[slot.at:slot.end] not in (wanted.held([]), whole):
+            yield 'a next boot starts a target whose slot is half written'
 
     def count(self, wanted, got):
         call = wanted.foreseen.call
@@ -92,6 +115,9 @@ class Fuzz:
         furnish(run)
         shutil.copytree('.', kept + '/files')
         says.append(f'output {run.output}, memory {run.starved or "enough"}')
+        if run.limit is not None:
+            says.append(f'no file can be written from {run.limit} on, which '
+                        + ('ends the run' if run.dies else 'fails'))
         for name, text in (('command', command), ('says', '\n'.join(says))):
             with open(f'{kept}/{name}', 'w', errors='surrogateescape') as file:
                 file.write(text + '\n')
@@ -111,13 +137,29 @@ def judge_files(before, places):
             yield f'the file {shown(name)} was changed'
 
 
+def following(run, words):
+    """A session of these words after a run, which nothing disturbs."""
+    after = copy(run)
+    after.argv, after.output, after.starved = words, 'kept', None
+    after.limit, after.dies = None, False
+    return after
+
+
 def next_look(run, wanted):
     """The words of a session that loads what a session has left; None where it left nothing."""
+    command = wanted.foreseen.command
+    if command is None or command.name in ('history', 'verify'):
+        return None
+    return next_words(run, wanted, 'state', 'ink')
+
+
+def next_words(run, wanted, name, options):
+    """The words of a next session by the same files; None where none can follow."""
     command, call = wanted.foreseen.command, wanted.foreseen.call
     if command is None or call.read_only or 'i' not in command.given:
         return None
-    words = [call.device, run.argv[len(run.argv) - len(call.words) - 1].decode(), 'state']
-    for option in 'ink':
+    words = [call.device, run.argv[len(run.argv) - len(call.words) - 1].decode(), name]
+    for option in options:
         if option in command.given:
             words += ['-' + option, command.given[option]]
     return [word.encode() for word in words]
@@ -133,6 +175,10 @@ def acknowledged(wanted, got):
         actions = foreseen.command.actions
         sets = {name.encode(): value for kind, name, value in actions if kind == 'set'}
         return [(name, by_name[name].text(by_name[name].read(text))) for name, text in sets.items()]
+    if foreseen.command.name == 'install':
+        settings, target = foreseen.settings, foreseen.command.given['t']
+        return [(settings.variable(f'{target}.{name}').encode(), b'%d' % settings.worth(kind, target))
+                for name, kind in DEFAULTS]
     words = got.text.split()
     if len(words) < 3 or foreseen.command.name == 'shell':
         return []

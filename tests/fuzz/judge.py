@@ -3,10 +3,11 @@ import os
 import re
 import sys
 
-from device import Strides, Table, Targets, passing
+from device import Strides, Table, Targets, converted, history, passing
 from folder import content
 from foresee import Foreseen
 from shell import Shell
+from slot import Install, compared
 from tree import Unsure
 from words import Call
 
@@ -37,6 +38,12 @@ FAULTS = {
     17: rb'BadKey (None|Empty|BadHex)',
     18: rb'NoGood [0-9]+',
     20: rb'NoMemory',
+    22: rb'BadTarget .*',
+    23: rb'BadSlot (NoSlot|BadReg|Unaligned|OutOfDevice|Overlap)',
+    24: rb'BadDigest [0-9a-f]{64}',
+    25: rb'ImageTooLong [0-9]+',
+    26: rb'LastTarget [A-Za-z0-9_-]+',
+    27: rb'SlotFault [0-9]+',
 }
 # The text of a session that was done, likewise.
 DONE = {
@@ -46,10 +53,19 @@ DONE = {
     'mark-good': rb'good [A-Za-z0-9_-]+ [0-9]+\n',
     'boot': rb'start [A-Za-z0-9_-]+ left [0-9]+ tries [0-9]+\n',
     'shell': rb'.*',
+    'install': rb'installed [A-Za-z0-9_-]+ [0-9]+\n',
+    'verify': rb'same\n|differs [0-9]+\n',
+    'history': rb'copy 0 entries [0-9]+\n.*',
     'help': rb'bbx DEVICE GEOMETRY COMMAND .*\n',
     'version': rb'bbx [0-9.]+\n',
 }
-STATUSES = {0, 14, *FAULTS}
+# In place of the status of a run that was cut, as `dies` of a run says.
+CUT = 'cut'
+STATUSES = {0, 14, CUT, *FAULTS}
+# A line of --progress comes for so many bytes.
+STEP = 65536
+# A session has at most so many saves.
+MOST_SAVES = 10001
 # What stands for any line of a drill that fits what is drawn.
 COUNTS = b'a line of counts'
 
@@ -74,7 +90,8 @@ def prepare(run):
     base = content(device)
     if foreseen.opened and not call.read_only:
         base = (base or b'').ljust(call.geometry[2], b'\xff')
-    return Wanted(foreseen, base), (device, foreseen.plan_path())
+    limit = 0 if call.read_only else run.limit
+    return Wanted(foreseen, base, limit), (device, foreseen.plan_path())
 
 
 class Wanted:
@@ -82,13 +99,16 @@ class Wanted:
     and a text, and one of `plans`. None stands for what isn't known. `writes` says whether copies
     have to be written, `saves` whether for an area that none of them passes yet, and `area` is what
     all of them pass then. A copy that can't be written, but passes that area, is no fault. `front`
-    is what is sent before the line of a copy that can't be written."""
+    is what is sent before the line of a copy that can't be written. From the byte `limit` of the
+    device on nothing can be written. `install` is what an install does, `fills` whether it writes
+    its slot, and `longest` how long an area of a copy or a save may be."""
 
-    def __init__(self, foreseen, base):
+    def __init__(self, foreseen, base, limit):
         self.foreseen, self.base, self.layout = foreseen, base, foreseen.layout
-        self.answers = self.plans = self.area = None
-        self.writes = self.saves = False
-        self.front = b''
+        self.limit = len(base or b'') if limit is None else limit
+        self.answers = self.plans = self.area = self.install = None
+        self.writes = self.saves = self.fills = False
+        self.front, self.longest = b'', 0
         command, ends = foreseen.command, foreseen.ends
         if ends:
             self.answers = [(ends.status, fault(ends.status, line)) for line in ends.lines]
@@ -99,6 +119,11 @@ class Wanted:
             self.want_raw(command)
         elif foreseen.sure and command and command.name == 'drill':
             self.answers = [(0, COUNTS)]
+        elif foreseen.sure and command and command.name == 'history':
+            self.want_history()
+        elif foreseen.sure and command and command.name == 'verify':
+            slot = foreseen.slot
+            self.answers = [(0, compared(base[slot.at:slot.end], foreseen.image))]
         elif foreseen.sure and command:
             try:
                 self.want_state(command)
@@ -108,16 +133,25 @@ class Wanted:
     def want_raw(self, command):
         self.layout = Strides(command, self.foreseen.call.geometry)
         found = [area for area in passing(self.layout, self.base, None) if area is not None]
-        text = (found[0].hex() if found else 'none') + '\n'
+        text = (converted(self.layout, found[0]).hex() if found else 'none') + '\n'
         if command.area is not None:
             text, self.area, self.writes, self.saves = '', command.area, True, command.area not in found
         self.answers = [(0, text.encode())]
+
+    def want_history(self):
+        lines = []
+        for copy, areas in enumerate(history(self.layout, self.base, self.foreseen.key)):
+            lines.append(b'copy %d entries %d\n' % (copy, len(areas)))
+            for number, area in enumerate(areas, 1):
+                table = Table(self.layout, converted(self.layout, area))
+                lines.append(b'entry %d\n' % number + table.lines('dump'))
+        self.answers = [(0, b''.join(lines))]
 
     def want_state(self, command):
         foreseen = self.foreseen
         found = passing(self.layout, self.base, foreseen.key)
         loaded = next((area for area in found if area is not None), None)
-        first = self.layout.defaults() if loaded is None else loaded
+        first = converted(self.layout, loaded or b'')
         table, begun = Table(self.layout, first), None
         if command.name == 'state':
             status, text = 0, table.act(command.actions)
@@ -125,6 +159,10 @@ class Wanted:
             targets = Targets(foreseen.settings, table)
             run = Shell(targets, command.given.get('cause'), foreseen.plans, foreseen.steps)
             status, text, self.plans, self.front = run.status, run.text, run.stands, run.front
+            table.area[:], begun = run.saved, run.begun
+        elif command.name == 'install':
+            run = self.install = self.want_install(Targets(foreseen.settings, table))
+            status, text = run.status, run.text
             table.area[:], begun = run.saved, run.begun
         elif command.name == 'boot':
             targets = Targets(foreseen.settings, table)
@@ -135,11 +173,38 @@ class Wanted:
         self.answers = [(status, text if isinstance(text, bytes) else text.encode())]
         last = first if status in (10, 18) else bytes(table.area)
         self.saves = last != first and last not in found
-        if last != first or loaded is not None:
-            self.area = last
-            self.writes = last != first or any(area != last for area in found)
+        kept = last if last != first else loaded
+        if kept is not None:
+            self.area = kept
+            self.writes = last != first or any(area != kept for area in found)
         if begun is not None:
             self.area, self.writes, self.saves = last, True, begun not in found
+        self.longest = max(len(area) for area in found + [last] if area is not None)
+        self.fills = bool(self.install and (self.install.done or self.install.failed))
+
+    def want_install(self, targets):
+        foreseen, layout = self.foreseen, self.layout
+        end = layout.at + layout.copies * layout.unit
+        if not foreseen.call.read_only and self.limit < end:
+            raise Unsure('copies that cannot be written')
+        given = foreseen.command.given
+        return Install(targets, given['t'], foreseen.slot, foreseen.image, self.limit)
+
+    def held(self, steps):
+        """What the slot holds after these steps."""
+        return self.foreseen.slot.held(self.base, steps)
+
+    def progress(self):
+        """The least and the most bytes that the programs of a session write, where it is known:
+        those of the slot, and of each copy once for the load and once a save."""
+        if self.install is None:
+            return 0, len(self.base or b'') * MOST_SAVES if self.writes else 0
+        slot, layout = self.foreseen.slot, self.layout
+        erases, programs = slot.erases(), self.install.done + self.install.failed
+        least = sum(len(piece) for _, piece in self.install.done[len(erases):])
+        most = sum(len(piece) for _, piece in programs[len(erases):])
+        record = layout.record_length() + self.longest
+        return least, most + 3 * layout.copies * (record + 16 + layout.geometry[0])
 
 
 def fault(status, line):
@@ -159,7 +224,9 @@ def judge_answer(run, wanted, got):
     if got.status == 14 and run.output == 'kept' or got.status == 20 and not run.starved:
         yield f'status {got.status} has no cause'
         return
-    if answers and run.output != 'kept':
+    if run.dies and wanted.install and wanted.install.failed:
+        answers = [(CUT, b'')]
+    elif answers and run.output != 'kept':
         answers = [(14 if text else status, b'') for status, text in answers]
     if run.starved and got.status == 20:
         answers = [(20, b'fault 20 NoMemory\n' if run.output == 'kept' else b'')]
@@ -188,10 +255,10 @@ def judge_form(run, call, got):
     """What is wrong with a text of which no more is known than its form."""
     name = call.words[0] if call.kind == 'session' and call.words else call.kind
     form = DONE.get(name, b'')
-    if got.status == 14:
+    if got.status in (14, CUT):
         form = b''
     elif got.status:
-        front = rb'tries [0-9]+\n' if got.status == 11 else b'.*' if name == 'shell' else b''
+        front = rb'tries [0-9]+\n' if got.status == 11 else b'.*' if name in ('shell', 'history') else b''
         form = front + rb'fault %d (?:%s)\n' % (got.status, FAULTS[got.status])
     if not re.fullmatch(form if run.output == 'kept' else b'', got.text, re.S):
         yield f'it ends with {got.status} and sends {shown(got.text)}'
@@ -204,12 +271,23 @@ def asks(call):
     return '-g' in call.words or any(word.startswith('--get') for word in call.words)
 
 
-def judge_errors(call, got):
-    """Standard error has the sentence of --explain, and nothing else."""
-    form = rb'bbx: .+\n' if call.explain and got.status else b''
+def progress_line(count):
+    return b'bbx: %d bytes written\n' % (STEP * count)
+
+
+def judge_errors(wanted, got):
+    """Standard error has the lines of --progress and the sentence of --explain, and nothing else."""
+    call, errors, count = wanted.foreseen.call, got.errors, 0
+    while call.progress and errors.startswith(line := progress_line(count + 1)):
+        errors, count = errors[len(line):], count + 1
+    if call.progress and wanted.answers and got.status != 20:
+        least, most = [length // STEP for length in wanted.progress()]
+        if not least <= count <= most:
+            yield f'there are {count} lines of progress, and not {least} to {most}'
+    form = rb'bbx: .+\n' if call.explain and got.status not in (0, CUT) else b''
     if got.status == 20 or not call.is_text:
         form = rb'(bbx: .+\n)?'
-    if not re.fullmatch(form, got.errors, re.S):
+    if not re.fullmatch(form, errors, re.S):
         yield f'standard error has {shown(got.errors)}'
 
 
@@ -219,7 +297,7 @@ def judge_device(wanted, got, before):
     if not foreseen.opened or foreseen.call.read_only:
         base = before
     may_write = not foreseen.ends and foreseen.opened and not foreseen.call.read_only
-    if not may_write or (foreseen.sure and not wanted.writes):
+    if not may_write or (foreseen.sure and not wanted.writes and not wanted.fills):
         if after != base:
             yield 'the device was changed'
     elif after is None or len(after) != len(base):
@@ -230,10 +308,17 @@ def judge_device(wanted, got, before):
 
 def judge_copies(wanted, got):
     layout, base, after = wanted.layout, wanted.base, got.device
-    at, end = layout.at, layout.at + layout.copies * layout.unit
-    if after[:at] != base[:at] or after[end:] != base[end:]:
+    spared = [(layout.at, layout.at + layout.copies * layout.unit)]
+    if wanted.install:
+        spared.append((wanted.foreseen.slot.at, wanted.foreseen.slot.end))
+        yield from judge_slot(wanted, got)
+    if without(spared, after) != without(spared, base):
         yield 'the device was changed outside of the copies'
     if got.status == 20:
+        return
+    if wanted.area is None:
+        if without(spared[1:], after) != without(spared[1:], base):
+            yield 'a copy was written for nothing'
         return
     if any(area != wanted.area for area in passing(layout, after, wanted.foreseen.key)):
         yield 'a copy does not pass what was to be saved'
@@ -242,6 +327,26 @@ def judge_copies(wanted, got):
         start, end = layout.region(copy)
         if after[start:end] not in (base[start:end], image + base[start + len(image):end]):
             yield f'copy {copy} was changed after its record'
+
+
+def without(ranges, device):
+    """A device with zero bytes in these ranges."""
+    there = bytearray(device)
+    for start, end in ranges:
+        there[start:end] = bytes(end - start)
+    return there
+
+
+def judge_slot(wanted, got):
+    """A slot has each step that was done. Of one that failed each byte is there or isn't. Where
+    memory is refused all steps are done, or none."""
+    slot, install = wanted.foreseen.slot, wanted.install
+    there = got.device[slot.at:slot.end]
+    ways = [[wanted.held(install.done), wanted.held(install.done + install.failed)]]
+    if got.status == 20:
+        ways = [[wanted.held([])], [wanted.held(slot.steps(wanted.foreseen.image))]]
+    if not any(there in way or all(byte in more for byte, *more in zip(there, *way)) for way in ways):
+        yield 'the slot holds neither what it held nor the image'
 
 
 def judge_plan(wanted, got, before):
@@ -269,7 +374,7 @@ def judge(run, wanted, got, before, plan_before):
     if got.fault:
         return [got.fault]
     foreseen, found = wanted.foreseen, list(judge_answer(run, wanted, got))
-    found += judge_errors(foreseen.call, got)
+    found += judge_errors(wanted, got)
     found += judge_device(wanted, got, before)
     if foreseen.plan_path() != foreseen.call.device:
         found += judge_plan(wanted, got, plan_before)

@@ -53,6 +53,14 @@ def node_at(root, path):
     return node
 
 
+def region_of(node):
+    """The offset and the size that a node's `reg` says, None for none."""
+    cells = cells_of(node.prop(b'reg'))
+    if len(cells) == 4 and cells[0] == cells[2] == 0:
+        cells = cells[1::2]
+    return cells if len(cells) == 2 else None
+
+
 def counts(node):
     return b'barebox,state' in (strings_of(node.prop(b'compatible')) or [])
 
@@ -173,12 +181,10 @@ class Layout:
             if not path or not path.startswith(b'/'):
                 refuse('BadProp backend')
             found = [node_at(tree, path)]
-        cells = cells_of(found[0].prop(b'reg')) if found and found[0] else []
-        if len(cells) == 4 and cells[0] == cells[2] == 0:
-            cells = cells[1::2]
-        if len(cells) != 2:
+        region = region_of(found[0]) if found and found[0] else None
+        if region is None:
             refuse('NoBackend')
-        self.at, self.size = cells
+        self.at, self.size = region
 
     def place(self):
         page, block, size = self.geometry

@@ -3,7 +3,7 @@ import os
 import signal
 
 from folder import FOLDER, content
-from judge import Got, shown
+from judge import CUT, Got, shown
 
 
 # Seconds by the clock, after which a run is said to have no end.
@@ -29,9 +29,10 @@ class Machine:
         self.is_late = True
         os.kill(self.child, signal.SIGKILL)
 
-    def spawn(self, words, output, memory, seconds):
+    def spawn(self, words, run, memory, seconds):
         """The status of a run, and its time on a processor."""
-        limits = [b'--core=0', b'--fsize=67108864', b'--cpu=%d:%d' % (seconds + 1, seconds + 2)]
+        longest = 67108864 if run.limit is None else run.limit
+        limits = [b'--core=0', b'--fsize=%d' % longest, b'--cpu=%d:%d' % (seconds + 1, seconds + 2)]
         if len(self.program) == 1:
             limits.append(b'--as=%d' % memory)
         for file in self.outputs:
@@ -42,10 +43,12 @@ class Machine:
             'kept': (os.POSIX_SPAWN_DUP2, text, 1),
             'closed': (os.POSIX_SPAWN_CLOSE, 1),
             'full': (os.POSIX_SPAWN_OPEN, 1, '/dev/full', os.O_WRONLY, 0),
-        }[output], (os.POSIX_SPAWN_DUP2, errors, 2)]
+        }[run.output], (os.POSIX_SPAWN_DUP2, errors, 2)]
         command = [b'prlimit', *limits, b'--', *self.program, *words]
         self.is_late = False
-        self.child = os.posix_spawnp('prlimit', command, os.environ, file_actions=files)
+        signals = [signal.SIGXFSZ] if run.dies else []
+        self.child = os.posix_spawnp('prlimit', command, os.environ, file_actions=files,
+                                     setsigdef=signals)
         signal.alarm(LONGEST)
         _, status, used = os.wait4(self.child, 0)
         signal.alarm(0)
@@ -58,7 +61,7 @@ class Machine:
         device = len(run.bytes or b'') + (call.geometry[2] if call.geometry else 0)
         memory = run.starved or memory_limit(length)
         seconds = seconds_limit(length, device, call.drill_sessions())
-        status, used = self.spawn(words, run.output, memory, seconds)
+        status, used = self.spawn(words, run, memory, seconds)
         got = Got()
         got.text, got.errors = [os.pread(file, os.fstat(file).st_size, 0) for file in self.outputs]
         got.device, got.plan = map(content, places)
@@ -67,6 +70,8 @@ class Machine:
             got.fault = 'it has no end'
         elif used > seconds or signalled == signal.SIGXCPU:
             got.fault = f'it takes {used:.1f} s, and has {seconds:.1f} s for {length} bytes'
+        elif run.dies and signalled == signal.SIGXFSZ:
+            got.status = CUT
         elif signalled:
             got.fault = f'it ends by {signal.Signals(signalled).name}'
         elif os.WEXITSTATUS(status) == 20 and not run.starved:

@@ -4,10 +4,13 @@ import shapes
 from devices import device, hurt_device, strides
 from folder import FOLDER
 from hurt import Dice, hurt
+from images import Drawn
 from source import read_tree
 from tree import MAGIC, write_blob
 from values import geometry_of
 
+COMMANDS = [b'state'] * 5 + [b'boot'] * 3 + [b'mark-good'] + [b'shell'] * 3 + [b'history']
+COMMANDS += [b'install'] * 9 + [b'verify'] * 3
 VALUES = ['0', '1', '2', '3', '7', '10', '255', '256', '0x10', '4294967295', '4294967296', '-1', '',
           'x', '007', ' 1', '99999999999999999999999', 'primary', 'backup', 'spare', 'ab', 'abcd',
           '00:11:22:33:44:55', 'AA:bb:CC:dd:EE:0f', '00:11:22:33:44', 'abcde', '$`"\\', '\u00e4',
@@ -23,7 +26,7 @@ STEPS = [b'echo a', b'echo "$a" $?', b'true', b'false', b'test $a = 1', b'test $
 MENU_NAMES = [b'a.conf', b'b-1.2.conf', b'b-1.10.conf', b'b-1.2~rc.conf', b'z.conf', b'.conf',
               b'x.txt', b'01.conf', b'a^1.conf', b'B-1.conf', b'a\nb.conf', '\u00e4.conf'.encode()]
 OPTIONS = [b'-d', b'-g', b'-s', b'-i', b'-n', b'-k', b'-c', b'--cause', b'--dir', b'', b'--', b'-x',
-           b'--set=', b'--dump-shell', b'\xff']
+           b'--set=', b'--dump-shell', b'\xff', b'-t', b'-p', b'-f', b'--sha256']
 BAD_NUMBERS = [b'4294967296', b'65536', b'0x', b'99999999999999999999', b'-1', b'', b'0x1g']
 OTHER_DEVICES = [b'm', b'/dev/null', b'none/dev.img', b'set.txt/dev.img', b'loader', b'./dev.img',
                  b'']
@@ -39,12 +42,13 @@ LONGEST_ENTRY = 65536
 class Run:
     """One run: all words after the program's name (`argv`), the files, the device's bytes (None:
     there is none), and the output, which is kept, closed or full. `starved` is the memory that it
-    has, in bytes, where that is less than the limit."""
+    has, in bytes, where that is less than the limit. Where there is a `limit`, nothing can be
+    written from that byte of a file on; where it `dies`, the first such write ends the run."""
 
     def __init__(self):
         self.front, self.device, self.geometry, self.words = [], b'dev.img', b'', []
         self.argv, self.files, self.bytes = [], {}, None
-        self.output, self.starved = 'kept', None
+        self.output, self.starved, self.limit, self.dies = 'kept', None, None, False
 
 
 class Maker:
@@ -62,7 +66,8 @@ class Maker:
         if dice.once_in(60):
             self.big()
         ways = [self.hurt_file] * 10 + [self.hurt_words] * 3 + [self.hurt_bytes] * 6
-        for _ in range(dice.pick([0, 1, 1, 1, 1, 2, 2, 3])):
+        has_image = run.words[:1] in ([b'install'], [b'verify'])
+        for _ in range(dice.pick([0, 0, 0, 0, 1, 1, 2] if has_image else [0, 1, 1, 1, 1, 2, 2, 3])):
             dice.pick(ways + [self.hurt_geometry])()
         self.put_in_front()
         if dice.once_in(40):
@@ -70,11 +75,19 @@ class Maker:
         geometry = geometry_of(run.geometry.decode(errors='replace'))
         if geometry and geometry[2] > 1 << 24:
             run.geometry = b'ov:268435457'
+        if not self.may_be_limited():
+            run.limit, run.dies = None, False
         run.argv = list(map(harmless, run.front + [run.device, run.geometry] + run.words))
         for name, text in run.files.items():
             if text is not FOLDER:
                 run.files[name] = text.replace(b'.boot=/', b'.boot=./')[:LONGEST_FILE + 24]
         return run
+
+    def may_be_limited(self):
+        """Whether the limit meets nothing but an install on a whole device."""
+        run, geometry = self.run, geometry_of(self.run.geometry.decode(errors='replace'))
+        is_whole = geometry is not None and len(run.bytes or b'') >= geometry[2]
+        return run.words[:1] == [b'install'] and is_whole and b'--read-only' not in run.front
 
     def put_in_front(self):
         dice, run = self.dice, self.run
@@ -82,6 +95,8 @@ class Maker:
             run.front.append(b'--read-only')
         if dice.once_in(12):
             run.front.insert(0, b'--explain')
+        if dice.once_in(6 if run.words[:1] == [b'install'] else 40):
+            run.front.insert(0, b'--progress')
         if dice.once_in(10 if run.words[:1] in ([b'boot'], [b'shell']) else 60):
             run.front.insert(dice.below(len(run.front) + 1), b'--plan=' + dice.pick(PLANS))
         if dice.once_in(60):
@@ -101,19 +116,19 @@ class Maker:
 
     def board(self):
         """A session of new words on a device that a layout's copies stand on."""
-        dice, run, corpus = self.dice, self.run, self.corpus
-        command = dice.pick([b'state'] * 5 + [b'boot'] * 3 + [b'mark-good'] + [b'shell'] * 3)
-        is_any = command == b'state' or dice.once_in(9)
-        under_a_key = is_any and dice.once_in(5)
-        boards = corpus.boards if is_any else corpus.booting
-        board = dice.pick(corpus.keyed if under_a_key else boards)
+        dice, run = self.dice, self.run
+        command = dice.pick(COMMANDS)
+        board, drawn = self.pick_board(command), None
+        if command in (b'install', b'verify') and board.tree[:4] != MAGIC:
+            drawn = Drawn(dice, board)
+            board = drawn.board
         layout, key = board.layout, None
         run.geometry, run.files = board.geometry, dict(board.files)
         text = write_blob(read_tree(board.tree)) if dice.once_in(3) else board.tree
         name = b'board.dtb' if text[:4] == MAGIC else b'board.dts'
         run.files[name] = text
         words = [dice.pick([b'-i', b'-i', b'--input']), name]
-        if layout.keyed or dice.once_in(12):
+        if command != b'verify' and layout.keyed or dice.once_in(12):
             key = dice.pick([b'Jefe', b'k', bytes(65)])
             run.files[b'key.hex'] = key.hex().encode() + dice.pick([b'', b'\n', b' \r\n'])
             words += [b'-k', b'key.hex']
@@ -121,8 +136,8 @@ class Maker:
             words += [b'-n', dice.pick([layout.name, b'state', b'other', b''])]
         if command == b'state':
             words = self.actions(layout, words)
-        else:
-            self.targets()
+        elif command not in (b'history', b'verify'):
+            self.targets(12 if command == b'install' else 3)
             words += [b'-c', b'set.txt']
         if command == b'shell':
             run.files[b'boot.script'] = self.script()
@@ -131,6 +146,28 @@ class Maker:
             words += [b'--cause', dice.pick([b'power-on', b'reset', b'other'])]
         run.words = [command] + words
         run.bytes = device(dice, layout, key)
+        if drawn:
+            self.image(drawn, command)
+
+    def pick_board(self, command):
+        dice, corpus = self.dice, self.corpus
+        installs = command == b'install'
+        is_any = command in (b'state', b'history', b'verify') or dice.once_in(20 if installs else 9)
+        under_a_key = (is_any or installs) and dice.once_in(5)
+        boards = corpus.boards if is_any else corpus.booting
+        if under_a_key:
+            boards = [board for board in corpus.keyed if is_any or board.boots()]
+        return dice.pick(boards)
+
+    def image(self, drawn, command):
+        """An install or a comparison."""
+        run, words = self.run, drawn.words(command)
+        run.files[b'root.img'] = drawn.image
+        at = 1 if self.dice.once_in(3) else len(run.words)
+        run.words[at:at] = words
+        run.bytes = drawn.filled(run.bytes)
+        if command == b'install':
+            run.limit, run.dies = drawn.limit(), self.dice.once_in(2)
 
     def actions(self, layout, words):
         dice, pieces = self.dice, [words]
@@ -160,10 +197,10 @@ class Maker:
             return b'abcdefgh'[:dice.below(kinds[0].size + 1)]
         return b'%d' % dice.pick([dice.below(4), dice.below(256), dice.below(1 << 32)])
 
-    def targets(self):
-        """Settings and entries."""
+    def targets(self, others):
+        """Settings, one of so many times those of another example, and entries."""
         dice, files = self.dice, self.run.files
-        if dice.once_in(3):
+        if dice.once_in(others):
             files[b'set.txt'] = dice.pick(self.corpus.pools[b'txt'])
         lines = [line for line in SETTINGS if dice.once_in(8)]
         files[b'set.txt'] = files.get(b'set.txt', b'').rstrip(b'\n') + b'\n' + b''.join(
@@ -241,7 +278,7 @@ class Maker:
             return
         name = dice.pick(named)
         text, kind = run.files[name], name.rpartition(b'.')[2]
-        kind = kind if kind in self.corpus.pools else b'dts'
+        kind = b'hex' if kind == b'img' else kind if kind in self.corpus.pools else b'dts'
         if dice.once_in(40):
             run.files.pop(name)
             if dice.once_in(2):
@@ -296,7 +333,8 @@ class Maker:
         dice, run = self.dice, self.run
         size = dice.pick([20000, 100000, 300000, LONGEST_FILE])
         run.geometry, run.bytes = b'ov:192', None
-        others = [self.big_blob, self.big_settings, self.big_settings, self.big_entry, self.big_key]
+        others = [self.big_blob, self.big_settings, self.big_settings, self.big_entry, self.big_key,
+                  self.big_image, self.big_image]
         dice.pick([self.big_source] * 7 + others)(size)
         if dice.once_in(2):
             run.starved = dice.among(8, 24) << 20
@@ -331,6 +369,13 @@ class Maker:
     def big_key(self, size):
         self.on_board(self.corpus.keyed, b'state', b'-k', b'key.hex', b'-d')
         self.big_file(b'key.hex', shapes.KEYS, size)
+
+    def big_image(self, size):
+        dice, boards = self.dice, [board for board in self.corpus.booting if board.tree[:4] != MAGIC]
+        command = dice.pick([b'install', b'install', b'verify'])
+        drawn = Drawn(dice, dice.pick(boards), size + dice.below(2))
+        self.on_board([drawn.board], command, *([b'-c', b'set.txt'] if command == b'install' else []))
+        self.image(drawn, command)
 
 
 def harmless(word):

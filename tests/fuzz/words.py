@@ -5,8 +5,13 @@ import re
 from values import geometry_of, is_number, is_utf8, number
 
 LONG = {'--input': '-i', '--name': '-n', '--get': '-g', '--set': '-s'}
-ONCE = {'state': 'ink', 'mark-good': 'inkc', 'boot': 'inkc', 'shell': 'inkcx'}
+# The options of each command that have a value and come once at most.
+ONCE = {'state': 'ink', 'history': 'ink', 'mark-good': 'inkc', 'boot': 'inkc', 'shell': 'inkcx',
+        'install': 'inkctpf', 'verify': 'inpf'}
+HAS_TO_BE = set('icxtpf')
 SESSIONS = range(1, 1001)
+SHORT = re.compile('-[a-z]')
+DIGEST = re.compile('[0-9a-fA-F]{64}')
 TARGET = re.compile(r'[A-Za-z0-9_-]+')
 GENERAL = ('targets', 'state_prefix', 'default_attempts', 'default_priority', 'reset_attempts',
            'reset_priorities', 'retry', 'disable_on_zero_attempts')
@@ -20,7 +25,7 @@ class Call:
     """What all words after the program's name ask for: `kind` is help, version, none or session."""
 
     def __init__(self, words):
-        self.plan, self.read_only, self.explain = None, False, False
+        self.plan, self.read_only, self.explain, self.progress = None, False, False, False
         self.kind, self.device, self.geometry, self.words = 'none', None, None, []
         self.is_text = all(map(is_utf8, words))
         place = 0
@@ -49,6 +54,8 @@ class Call:
             self.stopped, self.read_only = self.read_only, True
         elif word == '--explain':
             self.stopped, self.explain = self.explain, True
+        elif word == '--progress':
+            self.stopped, self.progress = self.progress, True
         else:
             return False
         return not self.stopped
@@ -118,14 +125,17 @@ class Command:
                 due = option
             elif option in ('-g', '-s') and self.name == 'state':
                 due = option
-            elif option in ('-i', '-n', '-k', '-c', '-x') and option[1] in set(once) - set(self.given):
+            elif option == '--sha256' and self.name == 'install' and 'sha256' not in self.given:
+                due = option
+            elif SHORT.fullmatch(option or '') and option[1] in set(once) - set(self.given):
                 due = option
             else:
                 raise Bad(place)
             if sign:
                 self.take(due, value, place)
                 due = None
-        if due or not {'i', 'c', 'x'} & set(once) <= set(self.given):
+        wanted = HAS_TO_BE & set(once) | ({'sha256'} if self.name == 'install' else set())
+        if due or not wanted <= set(self.given):
             raise Bad(len(self.words) + 1)
 
     def take(self, option, value, place):
@@ -133,6 +143,10 @@ class Command:
             if value not in ('power-on', 'reset', 'other'):
                 raise Bad(place)
             self.given['cause'] = value
+        elif option == '--sha256':
+            if not DIGEST.fullmatch(value):
+                raise Bad(place)
+            self.given['sha256'] = value
         elif option == '-s':
             name, sign, text = value.partition('=')
             if not sign:
@@ -219,6 +233,11 @@ class Settings:
 
     def boot(self, target):
         return self.values.get(f'{target}.boot', f'loader/entries/{target}.conf')
+
+    def worth(self, kind, target):
+        """The number that is set for a target, or for all."""
+        otherwise = {'default_attempts': '3', 'default_priority': '1'}.get(kind, '0')
+        return number(self.values.get(f'{target}.{kind}', self.values.get(kind, otherwise)))
 
     def bind(self, layout):
         """Raises BadSettings where a variable isn't there or is of another type."""

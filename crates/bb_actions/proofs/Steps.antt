@@ -1,5 +1,6 @@
 -- One action more.
-use Rattle.std.proofs.Common.{◌≡◌, ℕ, ◌+◌, List, [], ◌∷◌, ◌++◌, Some, Ok, Err, append_assoc, ap, refl, sym, ◌∙◌, drop, take, fold, slice_get}
+use Rattle.std.proofs.Common.{◌≡◌, ℕ, ◌+◌, ◌≤◌, List, [], ◌∷◌, ◌++◌, Some, Ok, Err, append_assoc, append-nil, ap, length, refl, sym, ◌∙◌, drop, take, fold, slice_get}
+use Rattle.std.proofs.lemmas.List.{drop_all}
 use Rattle.bb_layout.specs.Results.{result_and_then}
 use Rattle.bb_layout.specs.declared.var.Var.{Var}
 use Rattle.bb_state.proofs.Lists.{drop_next, take_next}
@@ -35,6 +36,13 @@ pub bound_next : (vars : List Var) (bound : List BoundAction) (actions : List Ac
 bound_next vars bound actions i a next there is =
     ap (λ (l : List Action). onto_bound bound (read_actions vars l)) (drop_next actions i a there)
     ∙ rw is (onto_more bound next (read_actions vars (drop (i + 1) actions)))
+
+-- none is left
+pub bound_all : (vars : List Var) (bound : List BoundAction) (actions : List Action) (i : ℕ) → length actions ≤ i
+    → read_actions vars actions ≡ onto_bound bound (read_actions vars (drop i actions)) → read_actions vars actions ≡ Ok bound
+bound_all vars bound actions i ends from =
+    let all : onto_bound bound (Ok []) ≡ Ok bound = ap Ok (append-nil bound) in
+    from ∙ ap (λ (l : List Action). onto_bound bound (read_actions vars l)) (drop_all i actions ends) ∙ all
 
 -- ---- of those whose values are put
 

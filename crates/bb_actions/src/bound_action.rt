@@ -1,4 +1,4 @@
-use bb_base::{Bytes, Text};
+use bb_base::{Bytes, List, Text};
 
 /// An action on the variables of a layout.
 #[derive(Debug, Drop)]
@@ -12,3 +12,6 @@ pub enum BoundAction {
     /// `--dump-shell`: the same for a shell.
     DumpShell,
 }
+
+/// Actions on the variables of a layout, in the order of the words.
+pub type BoundActionList = List<BoundAction>;

@@ -5,15 +5,13 @@
 #![tactic(auto)]
 
 mod bound_action;
-mod bound_action_list;
 mod error;
 mod law;
 mod read;
 mod table;
 mod text;
 
-pub use bound_action::BoundAction;
-pub use bound_action_list::BoundActionList;
+pub use bound_action::{BoundAction, BoundActionList};
 pub use error::ActionError;
 pub use law::law_put_is_set;
 pub use read::read_actions;

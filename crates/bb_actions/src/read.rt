@@ -26,10 +26,7 @@ pub fn read_actions(
     ensures bound { IfOk result (AreBoundTo layout.now.vars) }
 {
     let mut bound = BoundActionList::none(alloc);
-    for place in 0..actions.len() {
-        let Some(action) = actions.get(place) else {
-            unreachable!()
-        };
+    for action in actions.as_slice() {
         bound.push(read_action(alloc, layout, action)?)?;
     }
     Ok(bound)

@@ -15,10 +15,7 @@ pub fn put_values(table: &mut Table, actions: &BoundActionList)
     ensures outside { (vars : List Var) → AreBoundTo vars actions.now
         → ChangesVarsAlone vars table.old table.new }
 {
-    for place in 0..actions.len() {
-        let Some(action) = actions.get(place) else {
-            unreachable!()
-        };
+    for action in actions.as_slice() {
         put_value(table, action);
     }
 }

@@ -22,10 +22,7 @@ pub fn actions_text(
         text ≡ actions_text (fields_of layout.now) area.now actions.now) }
 {
     let mut out = Bytes::none(alloc);
-    for place in 0..actions.len() {
-        let Some(action) = actions.get(place) else {
-            unreachable!()
-        };
+    for action in actions.as_slice() {
         add_action(alloc, layout, area, action, &mut out)?;
     }
     Ok(out)

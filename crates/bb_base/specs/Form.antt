@@ -27,9 +27,9 @@ pub record Form : Type 0 where
 
 -- what holds of every format
 pub record IsForm (form : Form) : Type 0 where
-  -- an area that fits isn't too long; all of them have one length
+  -- an area that fits isn't too long, for the format and for every record
   pub most : (area : List ℕ) → IsTrue (form.fits area) → length area ≤ form.area_len
-  pub sized : (area : List ℕ) → IsTrue (form.fits area) → length area ≡ form.area_len
+  pub limit : (area : List ℕ) → IsTrue (form.fits area) → length area ≤ area_limit
   -- its record has the length that its own gives, and passes as that area, which isn't old,
   -- whatever follows it
   pub whole : (area : List ℕ) → IsTrue (form.fits area) →

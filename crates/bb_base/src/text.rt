@@ -1,6 +1,6 @@
 ghost use Rattle.std.specs.Prelude.{◌≡◌, IfOk};
 
-use crate::NoMemory;
+use crate::{List, NoMemory};
 use std::alloc::Global;
 use std::marker::Model;
 
@@ -43,3 +43,6 @@ impl Text {
         Text::of(self.alloc, self.as_str())
     }
 }
+
+/// A list of texts. Clauses see the list of the texts' bytes.
+pub type TextList = List<Text>;

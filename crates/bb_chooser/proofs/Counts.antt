@@ -8,14 +8,14 @@ use Rattle.std.proofs.lemmas.Map.Made.{length-le_from_is_member}
 use Rattle.std.proofs.lemmas.Option.{slice_get_read}
 use Rattle.std.specs.Cmp.{nat_eq_equiv}
 use Rattle.std.specs.List.{AllByRecursion, IsDistinct, list_any, range_with_len}
-use Rattle.std.specs.Option.{option_map_or}
+use Rattle.std.specs.Option.{IfSome, option_map_or}
 use Rattle.std.specs.Prelude.{nat_eq, nat_le, nat_lt, unwrap_or}
 use Rattle.bb_chooser.proofs.Best.{count_at}
 use Rattle.bb_chooser.proofs.Resetting.{first, first_length, prio, prio_room, second, tries, tries_pairs, tries_room}
-use Rattle.bb_chooser.proofs.Writing.{EachOf, PairsOf, each_map, each_of, number_length, number_outside, written_length, written_outside}
+use Rattle.bb_chooser.proofs.Writing.{EachOf, PairsOf, each_map, each_of, number_length, number_outside, number_same, written_length, written_outside}
 use Rattle.bb_chooser.specs.Binding.{Binding, IsBinding, IsInside, ShareNothing}
-use Rattle.bb_chooser.specs.Choosing.{attempts_of, count_in, last_chosen_of, number_at, with_number}
-use Rattle.bb_chooser.specs.Counting.{chosen_target, spend_of}
+use Rattle.bb_chooser.specs.Choosing.{attempts_of, count_in, count_of, counts_of, last_chosen_of, number_at, priority_of, with_number}
+use Rattle.bb_chooser.specs.Counting.{HasDefaults, chosen_target, default_count, disable_of, enable_of, spend_of}
 use Rattle.bb_chooser.specs.Others.{IsOutside, KeepsOthers}
 use Rattle.bb_chooser.specs.declared.bound_target.BoundTarget.{BoundTarget}
 use Rattle.bb_chooser.specs.declared.count.Count.{Count}
@@ -149,3 +149,42 @@ pub disabled_keeps : (b : Binding) → IsBinding b → (table : List ℕ) → le
     → KeepsOthers b table (with_number (spent b table t target left) t.priority_at 0)
 disabled_keeps b is table sized target t left inside at =
     priority_keeps b is table (spent b table t target left) sized (spent_keeps b is table sized target t left inside at) target t 0 inside at
+
+-- ---- targets that are disabled and enabled
+
+pub disable_is : (b : Binding) (table : List ℕ) (target : ℕ) (t : BoundTarget) → target < length b.targets → t ≡ get_or b.targets target t
+    → disable_of b table target ≡ with_number table t.priority_at 0
+disable_is b table target t inside at =
+    ap (λ (o : Option BoundTarget). option_map_or (λ (u : BoundTarget). with_number table u.priority_at 0) o table)
+    (slice_get_read b.targets (length b.targets) target t refl inside at)
+
+-- so it has no priority
+pub disabled_without : (b : Binding) → IsBinding b → (table : List ℕ) → length table ≡ b.area_len → (target : ℕ) (t : BoundTarget) → target < length b.targets → t ≡ get_or b.targets target t
+    → priority_of b (with_number table t.priority_at 0) target ≡ 0
+disabled_without b is table sized target t inside at =
+    let room : IsInside b.area_len t = subst (IsInside b.area_len) (sym at) (is.each_inside target t inside) in
+    ap (λ (c : Count). c.priority) (count_at (count_in (with_number table t.priority_at 0)) b.targets target t inside at)
+    ∙ number_same table t.priority_at 0 (omega (arith, room.priority, sized))
+
+pub enable_is : (b : Binding) (table : List ℕ) (target : ℕ) (t : BoundTarget) → target < length b.targets → t ≡ get_or b.targets target t
+    → enable_of b table target ≡ with_number (with_number table t.priority_at t.target.default_priority) t.attempts_at t.target.default_attempts
+enable_is b table target t inside at =
+    ap
+    (λ (o : Option BoundTarget).
+    option_map_or
+    (λ (u : BoundTarget). with_number (with_number table u.priority_at u.target.default_priority) u.attempts_at u.target.default_attempts)
+    o table)
+    (slice_get_read b.targets (length b.targets) target t refl inside at)
+
+-- so it has its defaults, where they are what is read of it
+abbrev counted : ℕ → ℕ → Count
+counted priority attempts = record { priority = priority; attempts = attempts }
+
+pub enabled_defaults : (b : Binding) (table : List ℕ) (target : ℕ) (t : BoundTarget) → target < length b.targets → t ≡ get_or b.targets target t
+    → number_at table t.priority_at ≡ t.target.default_priority → number_at table t.attempts_at ≡ t.target.default_attempts
+    → HasDefaults b table target
+enabled_defaults b table target t inside at priority attempts =
+    subst (λ (o : Option BoundTarget). IfSome o (λ (u : BoundTarget). count_of (counts_of b table) target ≡ default_count u))
+    (sym (slice_get_read b.targets (length b.targets) target t refl inside at))
+    (count_at (count_in table) b.targets target t inside at
+    ∙ ap (λ (n : ℕ). counted n (number_at table t.attempts_at)) priority ∙ ap (counted t.target.default_priority) attempts)

@@ -8,6 +8,7 @@ mod Examples
 pub mod Following
 pub mod GivenSteps
 pub mod Named
+pub mod Places
 pub mod Reading
 pub mod Refusing
 pub mod Resetting

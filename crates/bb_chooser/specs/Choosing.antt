@@ -1,7 +1,8 @@
 -- Which target is best, by a table of the area's bytes (barebox User Manual, Bootchooser).
-use Rattle.std.specs.Prelude.{◌≡◌, ℕ, ◌+◌, ◌<◌, ◌≤◌, List, Option, map, slice_get, slice_range, unwrap_or}
+use Rattle.std.specs.Prelude.{◌≡◌, ℕ, ◌+◌, ◌<◌, ◌≤◌, List, Option, map, position, slice_get, slice_range, unwrap_or}
 use Rattle.std.specs.Int.{w32, from_le_bytes, to_le_bytes}
 use Rattle.std.specs.Option.{option_map}
+use Rattle.std.specs.Str.{bytes_eq}
 use Rattle.bb_vars.specs.Table.{table_with}
 use Rattle.bb_chooser.specs.Binding.{Binding}
 use Rattle.bb_chooser.specs.declared.bound_target.BoundTarget.{BoundTarget}
@@ -15,6 +16,10 @@ name_of b target = option_map (λ t. t.target.name) (slice_get b.targets target)
 
 abbrev pub entry_file : Binding → ℕ → Option (List ℕ)
 entry_file b target = option_map (λ t. t.target.entry) (slice_get b.targets target)
+
+-- the first of a name; no two have one
+abbrev pub target_place : Binding → List ℕ → Option ℕ
+target_place b name = position (λ t. bytes_eq t.target.name name) b.targets
 
 -- ---- what a table holds
 

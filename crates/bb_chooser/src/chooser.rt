@@ -1,7 +1,10 @@
-ghost use Rattle.std.specs.Prelude.{◌≡◌, ◌==◌, ◌&&◌, Ok, IfOk, IfErr};
+ghost use Rattle.std.specs.Prelude.{◌≡◌, Ok, IfOk, IfErr, position};
+ghost use Rattle.std.specs.Str.{bytes_eq};
 ghost use Rattle.bb_chooser.specs.Binding.{IsBoundTo, bind_of};
 ghost use Rattle.bb_chooser.specs.Refusals.{Refuses};
 ghost use Rattle.bb_chooser.specs.Resets.{has_cause};
+
+mod counting;
 
 use crate::SettingsError;
 use crate::after::{are_used_up, best_after, have_no_priority};
@@ -9,7 +12,7 @@ use crate::bind::{bound_targets, last_chosen_at};
 use crate::bound_target::BoundTarget;
 use crate::cause::Cause;
 use crate::events::Events;
-use crate::number::{number_at, put_number};
+use crate::number::number_at;
 use crate::resets::Resets;
 use crate::rules::Rules;
 use crate::settings::Settings;
@@ -43,13 +46,13 @@ impl Model for Chooser {
 
 impl Chooser {
     ghost use Rattle.std.specs.Prelude.{◌<◌, ◌≤◌, ◌↔◌, List, ℕ, Ok, IfOk, IfErr, IfSome, IsNone};
-    ghost use Rattle.std.specs.Prelude.{IsTrue, IsSome, length};
+    ghost use Rattle.std.specs.Prelude.{length};
     ghost use Rattle.std.specs.Option.{option_copied};
     ghost use Rattle.bb_base.specs.Form.{area_limit};
     ghost use Rattle.bb_chooser.specs.Binding.{IsBinding, IsBoundTo, bind_of};
     ghost use Rattle.bb_chooser.specs.Choosing as choosing;
     ghost use Rattle.bb_chooser.specs.Choosing.{IsBest, NoneQualifies, entry_file, name_of};
-    ghost use Rattle.bb_chooser.specs.Counting.{chosen_target, mark_good_of, spend_of};
+    ghost use Rattle.bb_chooser.specs.Choosing.{target_place};
     ghost use Rattle.bb_chooser.specs.Others.{KeepsOthers};
     ghost use Rattle.bb_chooser.specs.Refusals.{ComesFrom, Refuses};
     ghost use Rattle.bb_chooser.specs.Resets.{reset_of};
@@ -93,6 +96,14 @@ impl Chooser {
     {
         let bound = self.targets.get(target)?;
         Some(&bound.target.name)
+    }
+
+    /// The target of that name, counted from 0, `None` exactly where there is none.
+    pub fn find(&self, name: &str) -> Option<usize>
+        ensures value { result ≡ target_place self.now name.now }
+        ensures inside { IfSome result (λ target. target < length self.now.targets) }
+    {
+        target_place(self.targets.as_slice(), name)
     }
 
     /// The name of a target's entry file, `None` exactly from the count on.
@@ -205,63 +216,15 @@ impl Chooser {
         }
         events.all_zero && are_used_up(self.targets.as_slice(), table, resets)
     }
-
-    /// Takes an attempt from a target, which has one, and notes it as the one that was chosen last.
-    /// With its last attempt it loses its priority, where the settings say so.
-    pub fn spend(&self, table: &mut Table, target: usize)
-        requires sized { length table.old ≡ self.now.area_len }
-        requires there { target < length self.now.targets }
-        requires left { 0 < choosing.attempts_of self.now table.old target }
-        ensures spent { table.new ≡ spend_of self.now table.old target }
-        ensures others { KeepsOthers self.now table.old table.new }
-    {
-        let bound = &self.targets[target];
-        let left = number_at(table, bound.attempts_at) - 1;
-        put_number(table, bound.attempts_at, left);
-        put_number(table, self.last_chosen_at, target as u32 + 1);
-        if !disables(self.rules, left) {
-            return;
-        }
-        put_number(table, bound.priority_at, 0);
-    }
-
-    /// Gives the target that was chosen last its default attempts back. The answer is false, and
-    /// nothing changes, exactly where no target has that place.
-    pub fn mark_good(&self, table: &mut Table) -> bool
-        requires { length table.old ≡ self.now.area_len }
-        ensures good { IsTrue result ↔ IsSome (chosen_target self.now table.old) }
-        ensures marked { table.new ≡ mark_good_of self.now table.old }
-        ensures others { KeepsOthers self.now table.old table.new }
-    {
-        let Some(target) = self.chosen_target(table) else {
-            return false;
-        };
-        let bound = &self.targets[target];
-        put_number(table, bound.attempts_at, bound.target.default_attempts);
-        true
-    }
-
-    // The target that was chosen last, from 0.
-    fn chosen_target(&self, table: &Table) -> Option<usize>
-        requires { length table.now ≡ self.now.area_len }
-        ensures { result ≡ chosen_target self.now table.now }
-    {
-        let place = number_at(table, self.last_chosen_at) as usize;
-        if place == 0 {
-            return None;
-        }
-        if place > self.targets.len() {
-            return None;
-        }
-        Some(place - 1)
-    }
 }
 
-// Whether a target loses its priority.
-fn disables(rules: Rules, left: u32) -> bool
-    ensures { result ≡ (rules.disable_on_zero_attempts && (left == 0)) }
+// The first of these targets that is called so.
+fn target_place(targets: &[BoundTarget], name: &str) -> Option<usize>
+    ensures { result ≡ position (λ t. bytes_eq t.target.name name.now) targets.now }
 {
-    rules.disable_on_zero_attempts && left == 0
+    targets
+        .iter()
+        .position(|bound| bound.target.name.as_str() == name)
 }
 
 fn bound_chooser(

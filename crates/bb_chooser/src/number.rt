@@ -20,8 +20,18 @@ fn number_of(bytes: &[u8]) -> u32
     u32::from_le_bytes([bytes[0], bytes[1], bytes[2], bytes[3]])
 }
 
-/// Sets the uint32 at a place of a table.
+/// Sets the uint32 at a place of a table, which is then the one that is read there.
 pub(crate) fn put_number(table: &mut Table, at: u32, n: u32)
+    requires { at + 4 ≤ length table.old }
+    ensures put { table.new ≡ with_number table.old at n }
+    ensures same_length { length table.new ≡ length table.old }
+    ensures reads { number_at table.new at ≡ n }
+{
+    put_bytes(table, at, n);
+}
+
+// Puts the bytes of a number at a place of a table, the least one first.
+fn put_bytes(table: &mut Table, at: u32, n: u32)
     requires { at + 4 ≤ length table.old }
     ensures put { table.new ≡ with_number table.old at n }
     ensures same_length { length table.new ≡ length table.old }

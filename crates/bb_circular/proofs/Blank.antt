@@ -31,7 +31,7 @@ none_after true true z o e = ap (λ b. if b then o else None) e
 none_after true false z o e = refl
 none_after false y z o e = refl
 
-no_entry : (page pages : ℕ) (last : Page) → IsErased last.bytes → closed_entry page pages last ≡ None
+pub no_entry : (page pages : ℕ) (last : Page) → IsErased last.bytes → closed_entry page pages last ≡ None
 no_entry page pages last erased =
     none_after (nat_le 1 pages) (not (is_lost last.health))
     (closes page (pages * page) (last_words page last))

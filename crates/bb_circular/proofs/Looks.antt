@@ -1,5 +1,5 @@
 -- What reads of a block say of its pages and of its newest entry.
-use Rattle.std.proofs.Common.{◌≡◌, ◌≢◌, ℕ, ◌+◌, ◌-◌, ◌*◌, ◌/◌, ◌%◌, ◌<◌, ◌≤◌, true, false, ◌&&◌, not, List, eqb, leb, length, take, drop, Option, Some, None, sym, ap, ◌∙◌, subst, arith, inl, inr, cond, take_all}
+use Rattle.std.proofs.Common.{◌≡◌, ◌≢◌, ℕ, ◌+◌, ◌-◌, ◌*◌, ◌/◌, ◌%◌, ◌<◌, ◌≤◌, Bool, true, false, ◌&&◌, not, List, eqb, leb, length, take, drop, Option, Some, None, refl, sym, ap, ◌∙◌, subst, arith, inl, inr, cond, if◌then◌else◌, take_all}
 use Rattle.std.specs.List.{list_all, suffix_len}
 use Rattle.std.specs.Option.{option_and_then}
 use Rattle.std.specs.Prelude.{IfSome}
@@ -23,7 +23,7 @@ use Rattle.bb_circular.specs.Circular.{IsEntryIn, IsKeptIn, readable}
 use Rattle.bb_circular.specs.PutLaws.{same_page}
 use Rattle.bb_circular.specs.EntryLaws.{one_at_least}
 use Rattle.bb_circular.specs.Entries.{closed_entry, closes, last_words, closing_len_of}
-use Rattle.bb_circular.specs.Looking.{IsKnown, IsLastPage, kept_at}
+use Rattle.bb_circular.specs.Looking.{IsEndOf, IsKnown, IsLastPage, kept_at}
 use Rattle.bb_circular.specs.Pages.{Page, is_erased, page_at, pages_of, written_pages}
 use Rattle.bb_circular.specs.PagesLaws.{IsLookedAt, IsPaged, page_of, pages_counted, written_from}
 
@@ -149,6 +149,33 @@ closed_read page there out pages health same exact =
       | inr kept ↦ ap (closed_entry page pages) (same_page (record { bytes = out; health = health }) there (exact (lost_or_kept health kept)) same)
     ]
 
+-- what was read of a page says which entry it ends
+pub end_read :
+    (page : ℕ) (old : Image) (size pages : ℕ) (out : List ℕ) (health : Health) (entry : Option Entry) →
+    IsPart page old size ((pages - 1) * page) out health → length out ≡ page →
+    entry ≡ closed_entry page pages (record { bytes = out; health = health }) →
+    IsEndOf page pages old out entry
+end_read page old size pages out health entry part long is =
+    let there : Page = page_at page old (pages - 1) in
+    let same = page_read_health page old size (pages - 1) out health part long in
+    record {
+      entry_is =
+          is
+          ∙ closed_read page there out pages health same
+          (λ kept. part.exact kept ∙ ap (λ n. take n (drop ((pages - 1) * page) old.bytes)) long);
+      bytes =
+          elim (cases_Bool (is_lost health)) [
+            | inl lost ↦
+                subst (λ (e : Option Entry). IfSome e (λ _. out ≡ there.bytes))
+                (sym (is ∙ closed_lost page pages (record { bytes = out; health = health }) lost)) tt
+            | inr kept ↦ if_some entry (page_read_bytes page old size (pages - 1) out health part long kept)
+          ];
+    }
+  where
+    if_some : {P : Type 0} (e : Option Entry) → P → IfSome e (λ _. P)
+    if_some None p = tt
+    if_some (Some x) p = p
+
 pub closed_same :
     (page : ℕ) (old : Image) (out : List ℕ) (last : LastPage) →
     IsLastPage page old out last →
@@ -190,6 +217,31 @@ entry_in block pages words least whole inside closing =
       aligned = sym (mod_moved page len (end - len) is_whole) ∙ ap (λ n. n % page) sum ∙ mul-mod_left pages page;
       pages = is_whole;
     }
+
+-- an entry that a page closes ends with it
+ended_at : (yes : Bool) (end len : ℕ) → (yes ≡ true → len ≤ end) →
+    IfSome (if yes then Some (record { at = end - len; len = len }) else None)
+    (λ (e : Entry). e.at + e.len ≡ end)
+ended_at true end len fits = let inside = fits refl in omega arith
+ended_at false end len fits = tt
+
+pub closed_ends :
+    (page pages : ℕ) (last : Page) (entry : Option Entry) → entry ≡ closed_entry page pages last →
+    IfSome entry (λ e. e.at + e.len ≡ pages * page)
+closed_ends page pages last entry is =
+    let words : List ℕ = last_words page last in
+    let len : ℕ = closing_len_of words in
+    let end : ℕ = pages * page in
+    let alive : Bool = not (is_lost last.health) in
+    subst (λ (o : Option Entry). IfSome o (λ e. e.at + e.len ≡ pages * page)) (sym is)
+    (ended_at (leb 1 pages && (alive && closes page end words)) end len
+    (λ yes.
+    let sound = and_parts (leb 1 pages) (alive && closes page end words) yes in
+    let closing = and_parts alive (closes page end words) sound.1 in
+    let magic = and_parts (eqb (little_number 4 words) 0x14fa2d02) (eqb (len % page) 0 && (leb 1 len && leb len end)) closing.1 in
+    let multiple = and_parts (eqb (len % page) 0) (leb 1 len && leb len end) magic.1 in
+    let bounds = and_parts (leb 1 len) (leb len end) multiple.1 in
+    leb-true len end bounds.1))
 
 -- what is known once the last page was looked at
 pub known_of :

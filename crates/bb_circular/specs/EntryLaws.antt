@@ -1,13 +1,14 @@
 -- What an entry holds: its length, its record in front, and its closing words after.
-use Rattle.std.proofs.Common.{◌≡◌, ℕ, zero, suc, ◌+◌, ◌-◌, ◌*◌, ◌%◌, ◌^◌, ◌<◌, ◌≤◌, Bool, true, false, ◌&&◌, List, [], eqb, leb, length, take, drop, replicate, refl, sym, ap, ◌∙◌, arith, length-append}
+use Rattle.std.proofs.Common.{◌≡◌, ℕ, zero, suc, ◌+◌, ◌-◌, ◌*◌, ◌%◌, ◌^◌, ◌<◌, ◌≤◌, Bool, true, false, ◌&&◌, List, [], eqb, leb, nat_le, length, take, drop, replicate, refl, sym, ap, ◌∙◌, arith, length-append}
 use Rattle.std.specs.List.{list_all}
 use Rattle.std.proofs.Math.Nat.{add-mul, mul-mod_left}
 use Rattle.std.proofs.Math.Seq.{drop-append_seam, take-append_seam}
-use Rattle.std.proofs.lemmas.Bool.{and_right, eq-eqb, le-leb}
+use Rattle.std.proofs.lemmas.Bool.{and_parts, and_right, eq-eqb, le-leb, leb-true}
 use Rattle.std.proofs.lemmas.Grind.{div_ceil_times}
 use Rattle.std.proofs.lemmas.List.{drop-append-le, length-replicate}
 use Rattle.std.proofs.lemmas.List.Folds.{list_all-append}
 use Rattle.std.specs.Int.{div_ceil}
+use Rattle.byteorder.specs.Endian.{little_number}
 use Rattle.byteorder.specs.Numbers.{little_number-reads_back}
 use Rattle.bb_bucket.specs.Blocks.{filled_to}
 use Rattle.bb_circular.specs.Entries.{closes, closing_words, entry_len, closing_len_of, log_entry}
@@ -97,3 +98,13 @@ words_close page len end small whole some inside =
     ap (λ n. eqb (n % page) 0 && (leb 1 n && leb n end)) (words_length len small)
     ∙ all_hold (eqb (len % page) 0) (leb 1 len) (leb len end) (eq-eqb (len % page) 0 whole)
     (le-leb 1 len some) (le-leb len end inside)
+
+-- an entry that words close doesn't reach before its block's start
+pub closes_fits : (page end : ℕ) (words : List ℕ) → closes page end words ≡ true → closing_len_of words ≤ end
+closes_fits page end words ends =
+    let magic : Bool = eqb (little_number 4 words) 0x14fa2d02 in
+    let whole : Bool = eqb (closing_len_of words % page) 0 in
+    let some : Bool = nat_le 1 (closing_len_of words) in
+    let inside : Bool = nat_le (closing_len_of words) end in
+    leb-true (closing_len_of words) end
+    (and_parts some inside (and_parts whole (some && inside) (and_parts magic (whole && (some && inside)) ends).1).1).1

@@ -235,7 +235,7 @@ module _ (page size : ℕ) (block : Image) (paged : IsPaged page size block) whe
       ∙ passes_behind is_erased (pages_of page block) k d from (omega arith)
 
   -- a blank page holds 0xFF alone, and isn't Lost
-  page_blank : (k : ℕ) → k < size / page → is_erased (page_at page block k) ≡ true →
+  pub page_blank : (k : ℕ) → k < size / page → is_erased (page_at page block k) ≡ true →
       IsBlank page block (k * page) page
   page_blank k inside blank =
       let parts = and_parts (not (is_lost (page_at page block k).health))

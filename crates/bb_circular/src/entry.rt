@@ -13,7 +13,7 @@ use byteorder::{ByteOrder, LittleEndian};
 
 /// In bytes: the words after a record, the magic one and the entry's whole length (this project's
 /// profile).
-pub(crate) const CLOSING_LEN: u32 = 8;
+pub const CLOSING_LEN: u32 = 8;
 
 const CLOSING_MAGIC: u32 = 0x14fa_2d02;
 

@@ -1,20 +1,21 @@
 -- What is found in the copies below one, and in one more.
-use Rattle.std.proofs.Common.{◌≡◌, ◌⊎◌, ◌∙◌, ℕ, ◌+◌, ◌<◌, ◌≤◌, ◌&&◌, Bool, true, false, not, List, length, set, Option, Some, None, Result, Ok, Err, IfOk, IfSome, ap, sym, subst, arith, inl, inr, IsTrue, get_or-set_other, get_or-set_same}
+use Rattle.std.proofs.Common.{◌≡◌, ◌⊎◌, ◌∙◌, ℕ, ◌+◌, ◌<◌, ◌≤◌, ◌++◌, ◌&&◌, Bool, true, false, not, refl, List, length, set, take, Option, Some, None, Result, Ok, Err, IfOk, IfSome, ap, sym, subst, arith, inl, inr, IsTrue, get_or-set_other, get_or-set_same}
 use Rattle.std.specs.Prelude.{slice_get}
 use Rattle.std.specs.Bool.{Decides}
 use Rattle.std.specs.Str.{bytes_eq}
+use Rattle.std.proofs.lemmas.List.{length-take-le, take_at}
 use Rattle.std.proofs.lemmas.Slice.Eq.{bytes_eq-Decides}
 use Rattle.bb_base.specs.Form.{Form}
-use Rattle.bb_flash.specs.declared.geometry.Geometry.{Geometry}
 use Rattle.bb_flash.specs.Device.{Device, ReadKeeps}
 use Rattle.bb_flash.specs.Image.{Image}
 use Rattle.bb_bucket.specs.Calls.{Agrees}
 use Rattle.bb_bucket.specs.Kind.{BucketKind, Holding, part_of}
 use Rattle.bb_bucket.proofs.Quiet.{agrees_kept}
 use Rattle.bb_copies.specs.declared.read.PassingCopy.{PassingCopy}
-use Rattle.bb_copies.specs.Buckets.{AllAgree, EachCopy}
-use Rattle.bb_copies.specs.Looking.{FindsBelow, IsFresh, IsReadAt, PassNothing, area_by, good_by, used_by}
-use Rattle.bb_copies.specs.Passing.{IsReading, passing_of}
+use Rattle.bb_copies.specs.Buckets.{AllAgree, EachCopy, IsFoundWithin}
+use Rattle.bb_copies.specs.declared.look.FirstCopy.{FirstCopy}
+use Rattle.bb_copies.specs.Looking.{FindsBelow, IsFresh, IsReadAt, IsFirstNow, PassNothing, area_by, copy_of, front_kept, good_by, used_by}
+use Rattle.bb_copies.specs.Passing.{FitsFront, IsReading, passing_of}
 use Rattle.bb_copies.specs.Refreshing.{is_marked}
 use Rattle.bb_copies.proofs.Many.{get_set_other, get_set_same, same_or_not}
 
@@ -44,7 +45,8 @@ decides_fresh form page kind image found area false same passes is_worn test = (
 good_decides : (form : Form) (page : ℕ) (kind : BucketKind) (image : Image) (found area : List ℕ) (passed : Option PassingCopy) → IsReading form page kind image found passed → Decides (good_by found passed area) (IsFresh form page kind area image)
 good_decides form page kind image found area None reading = (λ e. absurd cc, λ fresh. let both : None ≡ Some area = reading.area ∙ fresh.passes in absurd cc)
 good_decides form page kind image found area (Some passed) reading =
-    decides_fresh form page kind image found area passed.worn (bytes_eq found area) reading.area reading.worn (bytes_eq-Decides found area)
+    let front : List ℕ = take passed.len found in
+    decides_fresh form page kind image front area passed.worn (bytes_eq front area) reading.area reading.worn (bytes_eq-Decides front area)
 
 -- ---- one copy more
 
@@ -76,7 +78,9 @@ finds_more form page kinds bound found area good passed image (Some used) inside
 finds_more form page kinds bound found area good (Some passed) image None inside none reading = record {
   passes = λ copy kind e at. sym (reading copy kind e at).area;
   before = λ copy kind e low. none.each copy kind e low;
-  fresh = fresh_more form page kinds bound found found good (Some passed) image inside (none_fresh form page kinds bound found good image none) reading;
+  fresh =
+      let front : List ℕ = take passed.len found in
+      fresh_more form page kinds bound found front good (Some passed) image inside (none_fresh form page kinds bound front good image none) reading;
 }
 finds_more form page kinds bound found area good None image None inside none reading = record {
   each = λ copy kind e low. elim (below_or_at copy bound low) [ inl lower ↦ none.each copy kind e lower | inr at ↦ sym (reading copy kind e at).area ];
@@ -96,23 +100,81 @@ finds_step form page kinds bound found area after good g passed image used now i
     (subst (λ (a : List ℕ). FindsBelow form page kinds (bound + 1) a (set good bound (good_by found passed a)) image (used_by bound passed used)) (sym is_area)
     (finds_more form page kinds bound found area good passed image used inside finds reading)))
 
+-- ---- the first copy that passes, with its area in front of a memory
+
+pub nothing_first : (copy : ℕ) (found area : List ℕ) (used : Option FirstCopy) → IsFirstNow copy found None area area used used
+nothing_first copy found area None = (refl, refl)
+nothing_first copy found area (Some first) = (refl, refl)
+
+pub first_taken : (copy : ℕ) (found area shown rest : List ℕ) (passed : PassingCopy) → passed.len ≤ length found → shown ≡ take passed.len found → IsFirstNow copy found (Some passed) area (shown ++ rest) None (Some (record { copy = copy; len = passed.len }))
+first_taken copy found area shown rest passed inside is =
+    let long : length shown ≡ passed.len = ap length is ∙ length-take-le passed.len found inside in
+    (refl, take_at shown rest passed.len long ∙ is)
+
+pub first_number : (copy : ℕ) (found : List ℕ) (passed : Option PassingCopy) (old new : List ℕ) (used now : Option FirstCopy) → IsFirstNow copy found passed old new used now → copy_of now ≡ used_by copy passed (copy_of used)
+first_number copy found passed old new (Some first) now h = ap copy_of h.0
+first_number copy found (Some passed) old new None now h = ap copy_of h.0
+first_number copy found None old new None now h = ap copy_of h.0
+
+pub first_front : (copy : ℕ) (found : List ℕ) (passed : Option PassingCopy) (old new : List ℕ) (used now : Option FirstCopy) → IsFirstNow copy found passed old new used now → front_kept now new ≡ area_by found passed (front_kept used old) (copy_of used)
+first_front copy found passed old new (Some first) now h = ap (λ u. front_kept u new) h.0 ∙ ap (take first.len) h.1
+first_front copy found (Some passed) old new None now h = ap (λ u. front_kept u new) h.0 ∙ h.1
+first_front copy found None old new None now h = ap (λ u. front_kept u new) h.0
+
+-- ---- what holds of the first that passes, by its number and its area
+
 inside_by : (bound : ℕ) (passed : Option PassingCopy) (used : Option ℕ) → IfSome used (λ copy. copy < bound) → IfSome (used_by bound passed used) (λ copy. copy < bound + 1)
 inside_by bound passed (Some used) low = omega arith
 inside_by bound (Some passed) None low = omega arith
 inside_by bound None None low = low
 
-pub inside_step : (bound : ℕ) (passed : Option PassingCopy) (used now : Option ℕ) → now ≡ used_by bound passed used → IfSome used (λ copy. copy < bound) → IfSome now (λ copy. copy < bound + 1)
-inside_step bound passed used now is low = subst (λ (u : Option ℕ). IfSome u (λ copy. copy < bound + 1)) (sym is) (inside_by bound passed used low)
+pub first_below : (bound : ℕ) (used : Option FirstCopy) → IfSome used (λ first. first.copy < bound) → IfSome (copy_of used) (λ copy. copy < bound)
+first_below bound None low = tt
+first_below bound (Some first) low = low
 
-fits_by : (form : Form) (bound : ℕ) (found area : List ℕ) (passed : Option PassingCopy) (used : Option ℕ) → IfSome used (λ _. IsTrue (form.fits area)) → IfSome passed (λ _. IsTrue (form.fits found)) → IfSome (used_by bound passed used) (λ _. IsTrue (form.fits (area_by found passed area used)))
-fits_by form bound found area passed (Some used) before here = before
-fits_by form bound found area (Some passed) None before here = here
-fits_by form bound found area None None before here = before
+pub below_first : (bound : ℕ) (used : Option FirstCopy) → IfSome (copy_of used) (λ copy. copy < bound) → IfSome used (λ first. first.copy < bound)
+below_first bound None low = tt
+below_first bound (Some first) low = low
 
-pub fits_step : (form : Form) (bound : ℕ) (found area after : List ℕ) (passed : Option PassingCopy) (used now : Option ℕ) → now ≡ used_by bound passed used → after ≡ area_by found passed area used → IfSome used (λ _. IsTrue (form.fits area)) → IfSome passed (λ _. IsTrue (form.fits found)) → IfSome now (λ _. IsTrue (form.fits after))
-fits_step form bound found area after passed used now is_used is_area before here =
-    subst (λ (u : Option ℕ). IfSome u (λ _. IsTrue (form.fits after))) (sym is_used)
-    (subst (λ (a : List ℕ). IfSome (used_by bound passed used) (λ _. IsTrue (form.fits a))) (sym is_area) (fits_by form bound found area passed used before here))
+pub inside_step : (bound : ℕ) (passed : Option PassingCopy) (used now : Option FirstCopy) → copy_of now ≡ used_by bound passed (copy_of used) → IfSome used (λ first. first.copy < bound) → IfSome now (λ first. first.copy < bound + 1)
+inside_step bound passed used now is low =
+    below_first (bound + 1) now
+    (subst (λ (u : Option ℕ). IfSome u (λ copy. copy < bound + 1)) (sym is)
+    (inside_by bound passed (copy_of used) (first_below bound used low)))
+
+-- the area of the first copy that passes, if one does, fits, and its record isn't too long
+abbrev pub KnownFirst : Form → List BucketKind → Option FirstCopy → List ℕ → Type 0
+KnownFirst form kinds used area =
+    IfSome used (λ first. FitsFront form first.len area × IsFoundWithin form kinds first.len)
+
+pub known_parts : (form : Form) (kinds : List BucketKind) (used : Option FirstCopy) (area : List ℕ) → KnownFirst form kinds used area → IfSome used (λ first. FitsFront form first.len area) × IfSome used (λ first. IsFoundWithin form kinds first.len)
+known_parts form kinds None area known = (tt, tt)
+known_parts form kinds (Some first) area known = known
+
+pub known_inside : (form : Form) (kinds : List BucketKind) (used : Option FirstCopy) (area : List ℕ) → KnownFirst form kinds used area → IfSome used (λ first. first.len ≤ length area)
+known_inside form kinds None area known = tt
+known_inside form kinds (Some first) area known = known.0.inside
+
+pub some_weaker : {A : Type 0} (o : Option A) (P Q : A → Type 0) → ((x : A) → P x → Q x) → IfSome o P → IfSome o Q
+some_weaker None P Q weaker p = tt
+some_weaker (Some x) P Q weaker p = weaker x p
+
+-- one copy more
+pub known_step : (form : Form) (kinds : List BucketKind) (copy : ℕ) (found : List ℕ) (passed : Option PassingCopy) (old new : List ℕ) (used now : Option FirstCopy) → IsFirstNow copy found passed old new used now → length new ≡ length found → IfSome passed (λ p. FitsFront form p.len found) → IfSome passed (λ p. IsFoundWithin form kinds p.len) → KnownFirst form kinds used old → KnownFirst form kinds now new
+known_step form kinds copy found passed old new (Some first) now h size fits room known =
+    subst (λ (u : Option FirstCopy). KnownFirst form kinds u new) (sym h.0)
+    (subst (KnownFirst form kinds (Some first)) (sym h.1) known)
+known_step form kinds copy found (Some passed) old new None now h size fits room known =
+    let inside = fits.inside in
+    subst (λ (u : Option FirstCopy). KnownFirst form kinds u new) (sym h.0) (
+      record {
+        inside = omega (arith, inside, size);
+        fits = subst (λ (l : List ℕ). IsTrue (form.fits l)) (sym h.1) fits.fits;
+      },
+      room,
+    )
+known_step form kinds copy found None old new None now h size fits room known =
+    subst (λ (u : Option FirstCopy). KnownFirst form kinds u new) (sym h.0) tt
 
 -- what a read gave of a device that reads alone brought from another
 pub reading_from : (form : Form) (kinds here : List BucketKind) (copy : ℕ) (image : Image) (found : List ℕ) (passed : Option PassingCopy) (from mid : Device) → ReadKeeps from mid → here ≡ kinds → IsReadAt form mid.geometry.page here copy image found passed → IsReadAt form from.geometry.page kinds copy image found passed

@@ -17,6 +17,7 @@ pub mod Passed
 pub mod Pieced
 pub mod Placed
 pub mod Places
+pub mod Rooms
 pub mod Runs
 pub mod Saves
 pub mod Settled

@@ -1,5 +1,5 @@
 -- A load, from its two parts: all copies were read, and then settled.
-use Rattle.std.proofs.Common.{◌≡◌, ◌∙◌, ℕ, suc, ◌+◌, ◌-◌, ◌<◌, ◌≤◌, Bool, true, false, not, cond, List, [], ◌∷◌, length, get_or, Option, Some, None, is_some, count_by, option_map, ap, sym, subst, arith, refl, inl, inr}
+use Rattle.std.proofs.Common.{◌≡◌, ◌∙◌, ℕ, suc, take, IfSome, ◌+◌, ◌-◌, ◌<◌, ◌≤◌, Bool, true, false, not, cond, List, [], ◌∷◌, length, get_or, Option, Some, None, is_some, count_by, option_map, ap, sym, subst, arith, refl, inl, inr}
 use Rattle.std.specs.Option.{ForSome}
 use Rattle.std.proofs.lemmas.List.Sums.{get_or-le-sum_by, sum_by-cons}
 use Rattle.std.proofs.lemmas.Option.{slice_get_within}
@@ -17,11 +17,11 @@ use Rattle.bb_copies.specs.declared.answers.Loaded.{Loaded}
 use Rattle.bb_copies.specs.declared.answers.Loaded.TheVariants.{Copy, NoCopy}
 use Rattle.bb_copies.specs.declared.read.PassingCopy.{PassingCopy}
 use Rattle.bb_copies.specs.Buckets.{EachCopy}
-use Rattle.bb_copies.specs.Loading.{IsAllKept, IsEmpty, IsExact, IsFirstArea, IsLoadStuck, IsReadFault, LoadErases, LoadGives, LoadImages, LoadRuns, LoadsExactly, StandsStill}
+use Rattle.bb_copies.specs.Loading.{IsAllKept, IsEmpty, IsExact, IsFirstArea, IsLoadStuck, IsReadFault, LoadErases, IsTaken, LoadImages, LoadRuns, LoadsExactly, LookGives, StandsStill, looked_in}
 use Rattle.bb_copies.specs.Erasing.{ErasesBy, IsBounded, unmarked_kinds}
 use Rattle.bb_copies.specs.Looking.{IsFirst, IsReadAt, PassNothing}
 use Rattle.bb_copies.specs.Luck.{IsLucky}
-use Rattle.bb_copies.specs.Passing.{passing_of, passings}
+use Rattle.bb_copies.specs.Passing.{FitsFront, passing_of, passings}
 use Rattle.bb_copies.specs.Refreshing.{AllHeld, AllWritten, IsFirstMarked, IsStuckAt, KeepsMarked, NeverEmpty, Refreshes, area_if, is_marked}
 use Rattle.bb_copies.specs.Settling.{NothingFails, RoseBy}
 use Rattle.bb_copies.specs.StandsFor.{IsAreaOrNone, KeepsOrTakes, SomePasses, Stands, first_passed}
@@ -197,11 +197,11 @@ all_kept form kinds area good used live from mid to many h first is_live all cal
       read_faults = calm;
     }
 
-pub load_gives : (form : Form) (kinds : List BucketKind) (area : List ℕ) (good : List Bool) (used live : ℕ) (from mid to : Device) → length good ≡ length kinds → IsLater from mid → ForSome (content from) (λ image. IsFirstArea area (passings form from.geometry.page kinds image)) → AllHeld form kinds area good mid to → IsFirstMarked good (length good) used → live ≡ count_by (λ marked. marked) good → to.read_faults ≡ from.read_faults → IsBounded kinds (form.text area) from to → LoadGives form kinds area from to (Copy used live)
+pub load_gives : (form : Form) (kinds : List BucketKind) (area : List ℕ) (good : List Bool) (used live : ℕ) (from mid to : Device) → length good ≡ length kinds → IsLater from mid → ForSome (content from) (λ image. IsFirstArea area (passings form from.geometry.page kinds image)) → AllHeld form kinds area good mid to → IsFirstMarked good (length good) used → live ≡ count_by (λ marked. marked) good → to.read_faults ≡ from.read_faults → IsBounded kinds (form.text area) from to → IsTaken form kinds area used live from to
 load_gives form kinds area good used live from mid to many h entry all first counted calm bounded = record { entry = entry; exit = all_kept form kinds area good used live from mid to many h first counted all calm; bounded = bounded }
 
-pub load_stuck : (form : Form) (kinds : List BucketKind) (area : List ℕ) (copy : ℕ) (from mid to : Device) → IsLater from mid → IsLater mid to → ForSome (content from) (λ image. IsFirstArea area (passings form from.geometry.page kinds image)) → mid.read_faults ≡ from.read_faults → IsStuckAt form kinds area copy mid to → IsBounded kinds (form.text area) from to → IsLoadStuck form kinds area copy from to
-load_stuck form kinds area copy from mid to h k entry calm stuck bounded = record { entry = entry; stuck = stuck_earlier form kinds area copy from mid to h k calm stuck; bounded = bounded }
+pub load_stuck : (form : Form) (kinds : List BucketKind) (area : List ℕ) (copy : ℕ) (from mid to : Device) → IsLater from mid → IsLater mid to → ForSome (content from) (λ image. IsFirstArea area (passings form from.geometry.page kinds image)) → mid.read_faults ≡ from.read_faults → IsStuckAt form kinds area copy mid to → IsBounded kinds (form.text area) from to → IsLoadStuck form kinds copy from to
+load_stuck form kinds area copy from mid to h k entry calm stuck bounded = record { area = area; entry = entry; stuck = stuck_earlier form kinds area copy from mid to h k calm stuck; bounded = bounded }
 
 -- ---- without a fault
 
@@ -222,7 +222,7 @@ exact_copies form kinds area good bound used from mid to many keeps first kept w
 
 pub loads_exactly : (form : Form) (kinds : List BucketKind) (area rec : List ℕ) (good : List Bool) (bound used : ℕ) (from mid to : Device) (loaded : Loaded) → bound ≡ length kinds → rec ≡ form.text area → IsLater from mid → ReadKeeps from mid → ForSome (content from) (λ image. IsFirst form from.geometry.page kinds bound area good image used) → (NothingFails mid to → KeepsMarked kinds good mid to) → (NothingFails mid to → AllWritten kinds rec good mid to) → LoadsExactly form kinds area from to loaded
 loads_exactly form kinds area rec good bound used from mid to NoCopy many packed h keeps first kept written = tt
-loads_exactly form kinds area rec good bound used from mid to (Copy taken live) many packed h keeps first kept written = λ quiet.
+loads_exactly form kinds area rec good bound used from mid to (Copy taken live len old) many packed h keeps first kept written = λ quiet.
     let here = undisturbed_second from mid to h quiet in
     exact_copies form kinds area good bound used from mid to many keeps first (kept here) (subst (λ (r : List ℕ). AllWritten kinds r good mid to) packed (written here))
 
@@ -239,10 +239,19 @@ loads_erasing form kinds area rec good bound used from mid to many packed told h
 
 -- ---- a look
 
--- the copies below one pass nothing, and it passes the area
-pub look_found : (form : Form) (kinds : List BucketKind) (area : List ℕ) (copy : ℕ) (passed : Option PassingCopy) (from : Device) → copy < length kinds → is_some passed ≡ true → ForSome (content from) (λ image. EachCopy kinds (λ place kind. place < copy → passing_of form from.geometry.page kind image ≡ None)) → ForSome (content from) (λ image. IsReadAt form from.geometry.page kinds copy image area passed) → ForSome (content from) (λ image. IsFirstArea area (passings form from.geometry.page kinds image))
-look_found form kinds area copy None from inside some none reading = absurd cc
-look_found form kinds area copy (Some passed) from inside some none reading = λ image e.
+-- how many bytes the area has that was found
+abbrev pub len_found : Option PassingCopy → Option ℕ
+len_found passed = option_map (λ (found : PassingCopy). found.len) passed
+
+pub looked_inside : (form : Form) (out : List ℕ) (passed : Option PassingCopy) → IfSome passed (λ found. FitsFront form found.len out) → IfSome (len_found passed) (λ len. len ≤ length out)
+looked_inside form out None fits = tt
+looked_inside form out (Some found) fits = fits.inside
+
+-- the copies below one pass nothing, and it passes the area in front
+pub look_found : (form : Form) (kinds : List BucketKind) (out : List ℕ) (copy : ℕ) (passed : Option PassingCopy) (from : Device) → copy < length kinds → is_some passed ≡ true → ForSome (content from) (λ image. EachCopy kinds (λ place kind. place < copy → passing_of form from.geometry.page kind image ≡ None)) → ForSome (content from) (λ image. IsReadAt form from.geometry.page kinds copy image out passed) → LookGives form kinds from (looked_in out (len_found passed))
+look_found form kinds out copy None from inside some none reading = absurd cc
+look_found form kinds out copy (Some passed) from inside some none reading = λ image e.
+    let area : List ℕ = take passed.len out in
     let there = kind_inside kinds copy inside in
     let passing : BucketKind → Option (List ℕ) = λ kind. passing_of form from.geometry.page kind image in
     let here : passing there.0 ≡ Some area = sym (reading image e copy there.0 there.1 refl).area in

@@ -7,6 +7,7 @@ use Rattle.bb_base.specs.Checked.{IsPassed, passed_of}
 use Rattle.bb_base.specs.Form.{Form, IsForm}
 use Rattle.bb_base.specs.declared.format.Passed.{Passed}
 use Rattle.bb_bucket.specs.Calls.{HasFound}
+use Rattle.bb_copies.specs.Passing.{FitsFront}
 
 -- ---- the first bytes that count pass as all of them do
 
@@ -65,28 +66,75 @@ found_len None len bytes candidate e h is = absurd (cc)
 found_len (Some n) len bytes candidate e h is =
     cc (ap (option_map {U = ℕ} (λ bytes. length bytes)) is)
 
--- ---- all areas have one length, so that what is left is the area
+-- ---- what is left begins with the area
 
-left_is : (passes : Option (List ℕ)) (left : List ℕ) (give : List ℕ → Passed) →
-    ((area : List ℕ) → passes ≡ Some area → length left ≡ length area) →
+passed_of_area : Bool → List ℕ → Passed
+passed_of_area old area = record { len = length area; old = old }
+
+front_is : (passes : Option (List ℕ)) (old : Bool) (left : List ℕ) →
     IfSome passes (λ area. take (length area) left ≡ area) →
-    option_map (λ _. left) (option_map give passes) ≡ passes
-left_is None left give sized front = refl
-left_is (Some area) left give sized front =
-    let size : length left ≡ length area = sized area refl in
-    ap (λ l. Some l) (sym (take_all (length area) left (omega (arith, size))) ∙ front)
+    option_map (λ (p : Passed). take p.len left) (option_map (passed_of_area old) passes) ≡ passes
+unfolding passed_of_area
+front_is None old left front = refl
+front_is (Some area) old left front = ap (λ l. Some l) front
 
-pub whole_passed : (form : Form) (bytes left : List ℕ) (answer : Option Passed) → IsForm form →
-    length left ≡ form.area_len → IsPassed form bytes left answer →
-    option_map (λ _. left) answer ≡ form.passes bytes
-whole_passed form bytes left answer laws e h =
-    ap (λ (a : Option Passed). option_map (λ _. left) a) h.is
-    ∙ left_is (form.passes bytes) left (λ area. record { len = length area; old = form.aged bytes })
-    (λ area is. e ∙ sym (laws.sized area (laws.passed_fits bytes area is))) h.area
+pub whole_passed : (form : Form) (bytes left : List ℕ) (answer : Option Passed) →
+    IsPassed form bytes left answer →
+    option_map (λ (p : Passed). take p.len left) answer ≡ form.passes bytes
+unfolding passed_of_area
+whole_passed form bytes left answer h =
+    ap (option_map (λ (p : Passed). take p.len left)) h.is
+    ∙ front_is (form.passes bytes) (form.aged bytes) left h.area
+
+-- the area that was given, where one was
+record IsGivenBy (passes : Option (List ℕ)) (len : ℕ) : Type 0 where
+  pub area : List ℕ
+  pub is : passes ≡ Some area
+  pub len_is : len ≡ length area
+
+len_or_none : Option Passed → ℕ
+len_or_none None = 0
+len_or_none (Some p) = p.len
+
+given_by : (passes : Option (List ℕ)) (old : Bool) (p : Passed) →
+    Some p ≡ option_map (passed_of_area old) passes → IsGivenBy passes p.len
+unfolding passed_of_area len_or_none
+given_by None old p e = absurd cc
+given_by (Some area) old p e = record { area = area; is = refl; len_is = ap len_or_none e }
+
+front_fits : (form : Form) (bytes left : List ℕ) (p : Passed) → IsForm form →
+    length left ≡ form.area_len → IsPassed form bytes left (Some p) → FitsFront form p.len left
+unfolding passed_of_area
+front_fits form bytes left p laws e h =
+    let given = given_by (form.passes bytes) (form.aged bytes) p h.is in
+    let fits : IsTrue (form.fits given.area) = laws.passed_fits bytes given.area given.is in
+    let front : take (length given.area) left ≡ given.area =
+    subst (λ (passes : Option (List ℕ)). IfSome passes (λ area. take (length area) left ≡ area))
+    given.is h.area in
+    let whole : take p.len left ≡ given.area = ap (λ n. take n left) given.len_is ∙ front in
+    record {
+      inside =
+          let most = laws.most given.area fits in
+          let len = given.len_is in
+          omega (arith, most, len, e);
+      fits = subst (λ (area : List ℕ). IsTrue (form.fits area)) (sym whole) fits;
+    }
 
 pub whole_fits : (form : Form) (bytes left : List ℕ) (answer : Option Passed) → IsForm form →
     length left ≡ form.area_len → IsPassed form bytes left answer →
-    IfSome answer (λ _. IsTrue (form.fits left))
+    IfSome answer (λ p. FitsFront form p.len left)
 whole_fits form bytes left None laws e h = tt
-whole_fits form bytes left (Some p) laws e h =
-    laws.passed_fits bytes left (sym (whole_passed form bytes left (Some p) laws e h))
+whole_fits form bytes left (Some p) laws e h = front_fits form bytes left p laws e h
+
+-- its record isn't longer than what was fed
+pub whole_room : (form : Form) (bytes left : List ℕ) (answer : Option Passed) (bound : ℕ) →
+    IsForm form → length bytes ≤ bound → IsPassed form bytes left answer →
+    IfSome answer (λ p. form.length_of p.len ≤ bound)
+unfolding passed_of_area
+whole_room form bytes left None bound laws small h = tt
+whole_room form bytes left (Some p) bound laws small h =
+    let given = given_by (form.passes bytes) (form.aged bytes) p h.is in
+    let whole = laws.passed_whole bytes given.area given.is in
+    let same : form.length_of p.len ≡ form.length_of (length given.area) =
+    ap form.length_of given.len_is in
+    omega (arith, whole, same, small)

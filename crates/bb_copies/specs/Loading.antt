@@ -1,6 +1,7 @@
 -- What a load makes of a device, and what it answers.
-use Rattle.std.specs.Prelude.{◌≡◌, ◌≢◌, ℕ, ◌-◌, ◌<◌, ◌≤◌, Bool, List, length, Option, Some, None}
-use Rattle.std.specs.Prelude.{is_some, count_by, true, false, Result, IfOk, IfErr, is_err, IsTrue}
+use Rattle.std.specs.Prelude.{◌≡◌, ℕ, ◌-◌, ◌<◌, ◌≤◌, Bool, List, [], length, take, Option, Some}
+use Rattle.std.specs.Prelude.{None, is_some, count_by, Result, Ok, Err, IfOk, IfErr, is_err, IsTrue}
+use Rattle.std.specs.Prelude.{option_map}
 use Rattle.std.specs.Bool.{Decides}
 use Rattle.std.specs.Option.{ForSome}
 use Rattle.bb_base.specs.Faults.{Rose, counted, one_more}
@@ -91,7 +92,7 @@ pub record IsEmpty (form : Form) (kinds : List BucketKind) (from to : Device) : 
 
 -- what a load answers
 abbrev pub LoadGives : Form → List BucketKind → List ℕ → Device → Device → Loaded → Type 0
-LoadGives form kinds area from to (Copy used live) = IsTaken form kinds area used live from to
+LoadGives form kinds area from to (Copy used live len old) = IsTaken form kinds area used live from to
 LoadGives form kinds area from to NoCopy = IsEmpty form kinds from to
 
 -- a copy couldn't be read: one read failed, and no call changed the device
@@ -104,8 +105,9 @@ pub record IsReadFault (from to : Device) : Type 0 where
   pub read_faults : to.read_faults ≡ one_more from.read_faults
 
 -- the copy of this number couldn't be settled with the area of the first that passed
-pub record IsLoadStuck (form : Form) (kinds : List BucketKind) (area : List ℕ) (copy : ℕ)
+pub record IsLoadStuck (form : Form) (kinds : List BucketKind) (copy : ℕ)
     (from to : Device) : Type 0 where
+  pub area : List ℕ
   pub entry :
       ForSome (content from)
       (λ image. IsFirstArea area (passings form from.geometry.page kinds image))
@@ -113,10 +115,10 @@ pub record IsLoadStuck (form : Form) (kinds : List BucketKind) (area : List ℕ)
   pub bounded : IsBounded kinds (form.text area) from to
 
 -- how a load is refused
-abbrev pub LoadFails : Form → List BucketKind → List ℕ → Device → Device → CopyFault → Type 0
-LoadFails form kinds area from to ReadFault = IsReadFault from to
-LoadFails form kinds area from to (WriteFault copy) = IsLoadStuck form kinds area copy from to
-LoadFails form kinds area from to Unsure = ⊥
+abbrev pub LoadFails : Form → List BucketKind → Device → Device → CopyFault → Type 0
+LoadFails form kinds from to ReadFault = IsReadFault from to
+LoadFails form kinds from to (WriteFault copy) = IsLoadStuck form kinds copy from to
+LoadFails form kinds from to Unsure = ⊥
 
 -- a region is as before where its copy passed the area from a record without a Worn page, else as
 -- after a write
@@ -132,7 +134,7 @@ pub record IsExact (form : Form) (page : ℕ) (kind : BucketKind) (area : List �
 
 -- without a fault a load that took a copy wrote exactly the copies that had to be written
 abbrev pub LoadsExactly : Form → List BucketKind → List ℕ → Device → Device → Loaded → Type 0
-LoadsExactly form kinds area from to (Copy used live) =
+LoadsExactly form kinds area from to (Copy used live len old) =
     NothingFails from to →
     ForSome (content from)
     (λ before. ForSome (content to)
@@ -156,7 +158,7 @@ pub record LoadErases (form : Form) (kinds : List BucketKind) (area : List ℕ)
 
 -- without a fault a load erased as those writes do, and nothing where no copy passes
 abbrev pub LoadsErasing : Form → List BucketKind → List ℕ → Device → Device → Loaded → Type 0
-LoadsErasing form kinds area from to (Copy used live) =
+LoadsErasing form kinds area from to (Copy used live len old) =
     NothingFails from to → LoadErases form kinds area from to
 LoadsErasing form kinds area from to NoCopy = erases to ≡ erases from
 
@@ -168,31 +170,57 @@ pub record LoadRuns (form : Form) (kinds : List BucketKind) (from to : Device) :
   pub starts : LeavesStarts from to
   pub whole : IsDevice to
 
--- A load: what it made of the device, and what it answered. `area` is what it left in the memory
--- for the area.
-pub record IsLoad (form : Form) (kinds : List BucketKind) (area : List ℕ) (from to : Device)
+-- the stored area after a load, which stands in front of a memory: it is the empty one where no
+-- copy passed, and after a refusal none is given
+abbrev pub stored_in : List ℕ → Result Loaded CopyFault → List ℕ
+stored_in memory (Ok (Copy used live len old)) = take len memory
+stored_in memory (Ok NoCopy) = []
+stored_in memory (Err fault) = []
+
+-- and there are as many bytes
+abbrev pub SaysWithin : ℕ → Loaded → Type 0
+SaysWithin count (Copy used live len old) = len ≤ count
+SaysWithin count NoCopy = Unit {0}
+
+-- the length that a load says is that of the stored area, which fits; no format of today has old
+-- areas
+pub record SaysLength (form : Form) (stored : List ℕ) (said aged : ℕ) : Type 0 where
+  pub len : length stored ≡ said
+  pub old : aged ≡ 0
+  pub fits : IsTrue (form.fits stored)
+
+abbrev pub LoadSays : Form → List ℕ → Loaded → Type 0
+LoadSays form stored (Copy used live len old) = SaysLength form stored len old
+LoadSays form stored NoCopy = stored ≡ []
+
+-- A load: what it made of the device, and what it answered. `stored` is the area that it gave, as
+-- long as it is stored.
+pub record IsLoad (form : Form) (kinds : List BucketKind) (stored : List ℕ) (from to : Device)
     (answer : Result Loaded CopyFault) : Type 0 where
   pub runs : LoadRuns form kinds from to
-  pub gives : IfOk answer (LoadGives form kinds area from to)
-  pub fits : IfOk answer (λ loaded. loaded ≢ NoCopy → IsTrue (form.fits area))
-  pub exact : IfOk answer (LoadsExactly form kinds area from to)
-  pub erases : IfOk answer (LoadsErasing form kinds area from to)
-  pub fails : IfErr answer (LoadFails form kinds area from to)
+  pub gives : IfOk answer (LoadGives form kinds stored from to)
+  pub says : IfOk answer (LoadSays form stored)
+  pub exact : IfOk answer (LoadsExactly form kinds stored from to)
+  pub erases : IfOk answer (LoadsErasing form kinds stored from to)
+  pub fails : IfErr answer (LoadFails form kinds from to)
 
--- what a look answers: whether a copy passes, and the area of the first
-abbrev pub LookGives : Form → List BucketKind → List ℕ → Device → Bool → Type 0
-LookGives form kinds area from true =
+-- the area of this length that stands in front of a memory, or none
+abbrev pub looked_in : List ℕ → Option ℕ → Option (List ℕ)
+looked_in memory found = option_map (λ len. take len memory) found
+
+-- what a look answers: the area of the first copy that passes, or none
+abbrev pub LookGives : Form → List BucketKind → Device → Option (List ℕ) → Type 0
+LookGives form kinds from (Some area) =
     ForSome (content from)
     (λ image. IsFirstArea area (passings form from.geometry.page kinds image))
-LookGives form kinds area from false =
+LookGives form kinds from None =
     ForSome (content from)
     (λ image. SomePasses (passings form from.geometry.page kinds image) → ⊥)
 
--- A look: what it answered, and that it only read. `area` is what it left in the memory for the
--- area.
-pub record IsLook (form : Form) (kinds : List BucketKind) (area : List ℕ) (from to : Device)
-    (answer : Result Bool CopyFault) : Type 0 where
-  pub gives : IfOk answer (LookGives form kinds area from)
+-- A look: the area that it answered, or none, and that it only read.
+pub record IsLook (form : Form) (kinds : List BucketKind) (from to : Device)
+    (answer : Result (Option (List ℕ)) CopyFault) : Type 0 where
+  pub gives : IfOk answer (LookGives form kinds from)
   pub fails : IfErr answer (λ fault. fault ≡ ReadFault)
   pub quiet : IsQuiet from to
   pub faults : to.faults ≡ counted (is_err answer) from.faults

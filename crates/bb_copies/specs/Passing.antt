@@ -1,7 +1,7 @@
 -- What the copies pass as in an image. Nothing is known here of how a record stands in its region,
 -- or what is in it.
-use Rattle.std.specs.Prelude.{◌≡◌, ℕ, List, map, slice_get, Option, IfSome, option_and_then}
-use Rattle.std.specs.Prelude.{option_map}
+use Rattle.std.specs.Prelude.{◌≡◌, ℕ, ◌≤◌, List, length, map, slice_get, take, Option, IfSome}
+use Rattle.std.specs.Prelude.{option_and_then, option_map, IsTrue}
 use Rattle.std.specs.Option.{ForSome}
 use Rattle.bb_base.specs.Form.{Form}
 use Rattle.bb_base.specs.declared.format.Passed.{Passed}
@@ -23,15 +23,21 @@ passings form page kinds image = map (λ kind. passing_of form page kind image) 
 abbrev pub passes_at : {A : Type 0} → List (Option A) → ℕ → Option A
 passes_at passing copy = option_and_then (λ area. area) (slice_get passing copy)
 
--- what the record of a copy passes as was found, where it has one: an area, in `out`, or nothing
+-- what the record of a copy passes as was found, where it has one: an area, in front of `out`, or
+-- nothing
 abbrev pub IsChecked : Form → ℕ → BucketKind → Image → List ℕ → Option Passed → Type 0
 IsChecked form page kind image out passed =
     ForSome (candidate_in kind page image)
-    (λ bytes. option_map (λ _. out) passed ≡ form.passes bytes)
+    (λ bytes. option_map (λ found. take found.len out) passed ≡ form.passes bytes)
 
--- what reading a copy gave: the area that it passes as, in `out`, and whether a page of its record
--- is Worn
+-- what reading a copy gave: the area that it passes as, in front of `out`, and whether a page of
+-- its record is Worn
 pub record IsReading (form : Form) (page : ℕ) (kind : BucketKind) (image : Image) (out : List ℕ)
     (reading : Option PassingCopy) : Type 0 where
-  pub area : option_map (λ _. out) reading ≡ passing_of form page kind image
+  pub area : option_map (λ found. take found.len out) reading ≡ passing_of form page kind image
   pub worn : IfSome reading (λ found. found.worn ≡ kind.is_worn (part_of page kind.region image))
+
+-- an area of this length stands in front of these bytes, and fits
+pub record FitsFront (form : Form) (len : ℕ) (bytes : List ℕ) : Type 0 where
+  pub inside : len ≤ length bytes
+  pub fits : IsTrue (form.fits (take len bytes))

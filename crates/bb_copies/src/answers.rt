@@ -1,9 +1,15 @@
 /// What a load found.
 #[derive(Clone, Copy, Debug, PartialEq, Eq)]
 pub enum Loaded {
-    /// An area. `used` is the first copy that passes it now, counted from 0, and `live` the number
-    /// of those that do.
-    Copy { used: u32, live: u32 },
+    /// An area of `len` bytes. `used` is the first copy that passes it now, counted from 0, and
+    /// `live` the number of those that do. `old` is how many passed as an old area alone, which no
+    /// format of today has.
+    Copy {
+        used: u32,
+        live: u32,
+        len: u32,
+        old: u32,
+    },
     /// No copy passes.
     NoCopy,
 }

@@ -1,9 +1,9 @@
 //! An area that is kept in two or three copies, and outlives a cut of power at any moment.
-//! It knows of buckets and formats what their traits say. Only bb_state may know it.
+//! It knows of buckets and formats what their traits say. Only bb_state may know it, and
+//! bb_history, which reads a copy as a load does.
 #![tactic(auto)]
 
 mod answers;
-mod bucket_list;
 mod copies;
 mod load;
 mod look;
@@ -16,5 +16,5 @@ mod settle;
 mod tally;
 
 pub use answers::{CopyFault, Loaded, Saved};
-pub use bucket_list::BucketList;
 pub use copies::Copies;
+pub use read::{PassingCopy, read_copy};

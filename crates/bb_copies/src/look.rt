@@ -1,11 +1,15 @@
-ghost use Rattle.std.specs.Prelude.{◌≡◌, ◌<◌, IfOk, IfSome, IsTrue, OnOk, is_err, length};
+ghost use Rattle.std.specs.Prelude.{◌≡◌, ◌<◌, ◌≤◌, ◌&&◌, IfOk, IfSome, OnOk, is_err, length, not};
+ghost use Rattle.std.specs.Prelude.{option_map};
 ghost use Rattle.std.specs.Option.{ForSome};
 ghost use Rattle.bb_base.specs.Faults.{counted};
 ghost use Rattle.bb_flash.specs.Device.{IsDevice, content};
 ghost use Rattle.bb_bucket.specs.Calls.{IsQuiet};
-ghost use Rattle.bb_copies.specs.Buckets.{AllAgree, AllServe, HasMemory, kinds_of};
-ghost use Rattle.bb_copies.specs.Loading.{LookGives};
-ghost use Rattle.bb_copies.specs.Looking.{FindsBelow, IsReadAt, area_by, good_by, used_by};
+ghost use Rattle.std.specs.Str.{bytes_eq};
+ghost use Rattle.bb_copies.specs.Buckets.{AllAgree, AllServe, HasMemory, IsFoundWithin, kinds_of};
+ghost use Rattle.bb_copies.specs.Loading.{LookGives, looked_in};
+ghost use Rattle.bb_copies.specs.Looking.{FindsBelow, IsFirstNow, IsReadAt, area_by, copy_of};
+ghost use Rattle.bb_copies.specs.Looking.{front_kept, good_by};
+ghost use Rattle.bb_copies.specs.Passing.{FitsFront};
 ghost use Rattle.bb_copies.specs.Placing.{AllPlaced, PlacesCopy};
 
 use crate::read::{PassingCopy, read_copy};
@@ -14,8 +18,17 @@ use bb_base::{Failed, Format};
 use bb_bucket::Bucket;
 use bb_flash::Flash;
 
+/// The first copy that passes, whose area stands in front.
+#[derive(Clone, Copy, Debug, PartialEq, Eq)]
+pub(crate) struct FirstCopy {
+    /// Its number, counted from 0.
+    pub copy: usize,
+    /// How many bytes its area has.
+    pub len: usize,
+}
+
 #[tactic(auto, using(bb_bucket::proofs::Quiet::quiet_same))]
-/// Reads all copies. `area` is then that of the first that passes, whose number is the answer;
+/// Reads all copies. The answer is the first that passes, whose area is then in front of `area`;
 /// those that pass it too, and have no Worn page, are marked. Where none passes `area` is as
 /// before. Nothing changes on the device.
 pub(crate) fn look_over<B: Bucket, M: Format, F: Flash>(
@@ -25,7 +38,7 @@ pub(crate) fn look_over<B: Bucket, M: Format, F: Flash>(
     flash: &mut F,
     area: &mut [u8],
     room: &mut Room,
-) -> Result<Option<usize>, Failed>
+) -> Result<Option<FirstCopy>, Failed>
     requires serves { AllServe (kinds_of B.holding buckets.old.items)
         (F.device flash.old).geometry }
     requires agreed { AllAgree B.holding (F.device flash.old) buckets.old.items }
@@ -36,10 +49,14 @@ pub(crate) fn look_over<B: Bucket, M: Format, F: Flash>(
     ensures done { IfOk result (λ used. ForSome (content (F.device flash.old)) (λ image.
         FindsBelow (M.form format.now) (F.device flash.old).geometry.page
         (kinds_of B.holding buckets.old.items)
-        (length buckets.old.items) area.new good.new.items image used)) }
-    ensures inside { IfOk result (λ used. IfSome used (λ copy. copy < length buckets.old.items)) }
-    ensures fits { IfOk result (λ used. IfSome used (λ _. IsTrue
-        ((M.form format.now).fits area.new))) }
+        (length buckets.old.items) (front_kept used area.new) good.new.items image
+        (copy_of used))) }
+    ensures inside { IfOk result (λ used. IfSome used (λ first.
+        first.copy < length buckets.old.items)) }
+    ensures fits { IfOk result (λ used. IfSome used (λ first.
+        FitsFront (M.form format.now) first.len area.new)) }
+    ensures room { IfOk result (λ used. IfSome used (λ first.
+        IsFoundWithin (M.form format.now) (kinds_of B.holding buckets.old.items) first.len)) }
     ensures quiet { IsQuiet (F.device flash.old) (F.device flash.new) }
     ensures faults { (F.device flash.new).faults
         ≡ counted (is_err result) (F.device flash.old).faults }
@@ -69,23 +86,24 @@ pub(crate) fn look_over<B: Bucket, M: Format, F: Flash>(
 }
 
 #[tactic(auto, using(bb_bucket::proofs::Quiet::quiet_same))]
-/// Reads the copies in their order up to the first that passes, and leaves its area in `area`. The
-/// answer is whether there is one. Nothing changes on the device.
+/// Reads the copies in their order up to the first that passes, and leaves its area in front of
+/// `area`. The answer is its length, or none. Nothing changes on the device.
 pub(crate) fn find_first<B: Bucket, M: Format, F: Flash>(
     buckets: &mut Vec<B>,
     format: &M,
     flash: &mut F,
     area: &mut [u8],
     room: &mut Room,
-) -> Result<bool, Failed>
+) -> Result<Option<usize>, Failed>
     requires serves { AllServe (kinds_of B.holding buckets.old.items)
         (F.device flash.old).geometry }
     requires agreed { AllAgree B.holding (F.device flash.old) buckets.old.items }
     requires whole { IsDevice (F.device flash.old) }
     requires memory { HasMemory (M.form format.now) room.old }
     requires area { length area.old ≡ (M.form format.now).area_len }
-    ensures gives { IfOk result (LookGives (M.form format.now)
-        (kinds_of B.holding buckets.old.items) area.new (F.device flash.old)) }
+    ensures gives { IfOk result (λ found. LookGives (M.form format.now)
+        (kinds_of B.holding buckets.old.items) (F.device flash.old) (looked_in area.new found)) }
+    ensures inside { IfOk result (λ found. IfSome found (λ len. len ≤ length area.new)) }
     ensures quiet { IsQuiet (F.device flash.old) (F.device flash.new) }
     ensures faults { (F.device flash.new).faults
         ≡ counted (is_err result) (F.device flash.old).faults }
@@ -100,13 +118,23 @@ pub(crate) fn find_first<B: Bucket, M: Format, F: Flash>(
     for copy in 0..buckets.len() {
         let passed = read_at(buckets, copy, format, flash, &mut room.piece, area)?;
         if passed.is_some() {
-            return Ok(true);
+            return Ok(len_of(passed));
         }
     }
-    Ok(false)
+    Ok(None)
 }
 
-// Reads the copy of a number, and leaves the area that it passes as in `area`, if it does.
+// How many bytes the area of a copy has, if it passes.
+fn len_of(passed: Option<PassingCopy>) -> Option<usize>
+    ensures { result ≡ option_map (λ found. found.len) passed }
+{
+    match passed {
+        Some(found) => Some(found.len),
+        None => None,
+    }
+}
+
+// Reads the copy of a number, and leaves the area that it passes as in front of `area`, if it does.
 fn read_at<B: Bucket, M: Format, F: Flash>(
     buckets: &mut Vec<B>,
     copy: usize,
@@ -126,7 +154,9 @@ fn read_at<B: Bucket, M: Format, F: Flash>(
         (kinds_of B.holding buckets.old.items)
         copy image area.new passed)) }
     ensures fits { IfOk result (λ passed.
-        IfSome passed (λ _. IsTrue ((M.form format.now).fits area.new))) }
+        IfSome passed (λ found. FitsFront (M.form format.now) found.len area.new)) }
+    ensures room { IfOk result (λ passed. IfSome passed (λ found.
+        IsFoundWithin (M.form format.now) (kinds_of B.holding buckets.old.items) found.len)) }
     ensures quiet { IsQuiet (F.device flash.old) (F.device flash.new) }
     ensures faults { (F.device flash.new).faults
         ≡ counted (is_err result) (F.device flash.old).faults }
@@ -140,26 +170,44 @@ fn read_at<B: Bucket, M: Format, F: Flash>(
     read_copy(&mut buckets[copy], format, flash, piece, area)
 }
 
-// What the copy of a number means for the first that passes, whose area is `area`: the copy takes
-// its place where none did yet. The answer is the first one's number now, and whether this copy is
-// fresh.
+#[tactic(auto, using(crate::proofs::Finding::nothing_first, crate::proofs::Finding::first_taken))]
+// What the copy of a number means for the first that passes, whose area stands in front of `area`:
+// the copy takes its place where none did yet. The answer is the first one now, and whether this
+// copy is fresh.
 fn compare(
     passed: Option<PassingCopy>,
     found: &[u8],
     copy: usize,
-    used: Option<usize>,
+    used: Option<FirstCopy>,
     area: &mut [u8],
-) -> (Option<usize>, bool)
-    requires { length found.now ≡ length area.old }
-    ensures used { result.0 ≡ used_by copy passed used }
-    ensures area { area.new ≡ area_by found.now passed area.old used }
-    ensures good { result.1 ≡ good_by found.now passed area.new }
+) -> (Option<FirstCopy>, bool)
+    requires found { IfSome passed (λ passed. passed.len ≤ length found.now) }
+    requires used { IfSome used (λ first. first.len ≤ length area.old) }
+    requires same { length found.now ≡ length area.old }
+    ensures first { IsFirstNow copy found.now passed area.old area.new used result.0 }
+    ensures good { result.1 ≡ good_by found.now passed
+        (area_by found.now passed (front_kept used area.old) (copy_of used)) }
 {
     let Some(passed) = passed else {
         return (used, false);
     };
-    if used.is_none() {
-        area.copy_from_slice(found);
+    let found = &found[..passed.len];
+    match used {
+        Some(first) => (used, is_fresh(passed.worn, found, &area[..first.len])),
+        None => {
+            area[..passed.len].copy_from_slice(found);
+            let first = FirstCopy {
+                copy,
+                len: passed.len,
+            };
+            (Some(first), is_fresh(passed.worn, found, found))
+        }
     }
-    (used.or(Some(copy)), !passed.worn && *found == *area)
+}
+
+// A copy that passes is fresh where no page of its record is Worn, and it passes the area.
+fn is_fresh(worn: bool, passed: &[u8], area: &[u8]) -> bool
+    ensures { result ≡ (not worn && bytes_eq passed.now area.now) }
+{
+    !worn && *passed == *area
 }

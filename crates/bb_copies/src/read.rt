@@ -1,9 +1,10 @@
-ghost use Rattle.std.specs.Prelude.{◌≡◌, ◌<◌, IfOk, IfSome, IsTrue, OnOk, Some, is_err, length};
+ghost use Rattle.std.specs.Prelude.{◌≡◌, ◌<◌, ◌≤◌, IfOk, IfSome, IsTrue, OnOk, Some, is_err};
+ghost use Rattle.std.specs.Prelude.{length, min};
 ghost use Rattle.std.specs.Option.{ForSome};
 ghost use Rattle.bb_base.specs.Faults.{counted};
 ghost use Rattle.bb_flash.specs.Device.{content};
 ghost use Rattle.bb_bucket.specs.Calls.{Agrees, IsQuiet};
-ghost use Rattle.bb_copies.specs.Passing.{IsChecked, IsReading};
+ghost use Rattle.bb_copies.specs.Passing.{FitsFront, IsChecked, IsReading};
 
 use bb_base::{Failed, Format, Passed};
 use bb_bucket::Bucket;
@@ -11,14 +12,16 @@ use bb_flash::Flash;
 
 /// A copy that passes.
 #[derive(Clone, Copy, Debug, PartialEq, Eq)]
-pub(crate) struct PassingCopy {
+pub struct PassingCopy {
     /// A page of its record is Worn: it is to be written anew.
     pub worn: bool,
+    /// How many bytes its area has.
+    pub len: usize,
 }
 
-/// Reads a copy, and leaves in `area` the area that it passes as, if it does. Its record is read
-/// and checked in pieces as long as `piece`.
-pub(crate) fn read_copy<B: Bucket, M: Format, F: Flash>(
+/// Reads a copy, and leaves in front of `area` the area that it passes as, if it does. Its record
+/// is read and checked in pieces as long as `piece`.
+pub fn read_copy<B: Bucket, M: Format, F: Flash>(
     bucket: &mut B,
     format: &M,
     flash: &mut F,
@@ -32,8 +35,11 @@ pub(crate) fn read_copy<B: Bucket, M: Format, F: Flash>(
     ensures done { IfOk result (λ reading. ForSome (content (F.device flash.old)) (λ image.
         IsReading (M.form format.now) (F.device flash.old).geometry.page (B.holding bucket.old).kind
         image area.new reading)) }
-    ensures fits { IfOk result (λ reading. IfSome reading (λ _. IsTrue
-        ((M.form format.now).fits area.new))) }
+    ensures fits { IfOk result (λ reading. IfSome reading (λ found.
+        FitsFront (M.form format.now) found.len area.new)) }
+    ensures room { IfOk result (λ reading. IfSome reading (λ found.
+        (M.form format.now).length_of found.len
+        ≤ min (M.form format.now).reach (B.holding bucket.old).kind.room)) }
     ensures quiet { IsQuiet (F.device flash.old) (F.device flash.new) }
     ensures faults { (F.device flash.new).faults
         ≡ counted (is_err result) (F.device flash.old).faults }
@@ -47,8 +53,13 @@ pub(crate) fn read_copy<B: Bucket, M: Format, F: Flash>(
     let Some(len) = found.len else {
         return Ok(None);
     };
-    let passed = check_found(bucket, format, flash, len, piece, area)?;
-    Ok(passed.is_some().then_some(PassingCopy { worn: found.worn }))
+    let Some(passed) = check_found(bucket, format, flash, len, piece, area)? else {
+        return Ok(None);
+    };
+    Ok(Some(PassingCopy {
+        worn: found.worn,
+        len: passed.len,
+    }))
 }
 
 // What the record that was found passes as. Only the bytes that count are read.
@@ -70,8 +81,10 @@ fn check_found<B: Bucket, M: Format, F: Flash>(
     ensures done { IfOk result (λ passed. ForSome (content (F.device flash.old)) (λ image.
         IsChecked (M.form format.now) (F.device flash.old).geometry.page (B.holding bucket.old).kind
         image area.new passed)) }
-    ensures fits { IfOk result (λ passed. IfSome passed (λ _. IsTrue
-        ((M.form format.now).fits area.new))) }
+    ensures fits { IfOk result (λ passed. IfSome passed (λ found.
+        FitsFront (M.form format.now) found.len area.new)) }
+    ensures room { IfOk result (λ passed. IfSome passed (λ found.
+        (M.form format.now).length_of found.len ≤ min (M.form format.now).reach len)) }
     ensures quiet { IsQuiet (F.device flash.old) (F.device flash.new) }
     ensures faults { (F.device flash.new).faults
         ≡ counted (is_err result) (F.device flash.old).faults }

@@ -8,7 +8,7 @@ ghost use Rattle.bb_copies.specs.Saving.{IsSave, IsSaved};
 ghost use Rattle.bb_copies.specs.Store.{used_in};
 
 use crate::CopyFault;
-use crate::load::pack;
+use crate::load::{front, pack};
 use crate::overwrite::save_all;
 use crate::room::Room;
 use crate::tally::{Taken, clear, tell};
@@ -27,7 +27,8 @@ pub(crate) fn save_copies<B: Bucket, M: Format, F: Flash>(
     rec: &mut Vec<u8>,
     room: &mut Room,
 ) -> Result<Taken, CopyFault>
-    requires room { HaveRoom (length rec.old.items) (kinds_of B.holding buckets.old.items) }
+    requires room { HaveRoom ((M.form format.now).length_of (length area.now))
+        (kinds_of B.holding buckets.old.items) }
     requires serves { AllServe (kinds_of B.holding buckets.old.items)
         (F.device flash.old).geometry }
     requires agreed { AllAgree B.holding (F.device flash.old) buckets.old.items }
@@ -35,8 +36,7 @@ pub(crate) fn save_copies<B: Bucket, M: Format, F: Flash>(
     requires placed { AllPlaced B.holding buckets.old.items }
     requires marks { length good.old.items ≡ length buckets.old.items }
     requires fits { IsTrue ((M.form format.now).fits area.now) }
-    requires record { length rec.old.items
-        ≡ (M.form format.now).length_of (M.form format.now).area_len }
+    requires record { (M.form format.now).length_of (length area.now) ≤ length rec.old.items }
     requires memory { HasMemory (M.form format.now) room.old }
     requires many { 2 ≤ length buckets.old.items }
     requires few { length buckets.old.items ≤ most_copies }
@@ -54,9 +54,10 @@ pub(crate) fn save_copies<B: Bucket, M: Format, F: Flash>(
     ensures record { length rec.new.items ≡ length rec.old.items }
     ensures memory { HasMemory (M.form format.now) room.new }
 {
-    pack(format, area, rec);
+    let len = pack(format, area, rec);
     clear(good);
-    match save_all(buckets, good, used, format, flash, area, rec, room) {
+    let packed = front(rec, len);
+    match save_all(buckets, good, used, format, flash, area, packed, room) {
         Ok(()) => Ok(tell(good)),
         Err(copy) => Err(CopyFault::WriteFault { copy: copy as u32 }),
     }

@@ -8,6 +8,7 @@ ghost use Rattle.bb_copies.specs.Settling.{CountsAs, EndsAs, IsCompared, Nothing
 ghost use Rattle.bb_copies.specs.Settling.{IsRepairWritten, ReadsAs, ReadsOnce, SettlesCopy};
 ghost use Rattle.bb_copies.specs.declared.settle.Settled.TheVariants.{Stuck};
 
+use crate::load::front;
 use crate::read::read_copy;
 use crate::room::Room;
 use bb_base::{Failed, Format};
@@ -93,7 +94,10 @@ fn read_back<B: Bucket, M: Format, F: Flash>(
 {
     match read_copy(bucket, format, flash, &mut room.piece, &mut room.area) {
         Ok(None) => Settled::Dead,
-        Ok(Some(_)) => compare_areas(&room.area, area),
+        Ok(Some(found)) => {
+            let passed = front(&room.area, found.len);
+            compare_areas(passed, area)
+        }
         Err(Failed) => Settled::Stuck,
     }
 }

@@ -23,7 +23,9 @@ use Rattle.bb_shell.specs.Boot.{Round, all_attempts, first_table, plan_at}
 use Rattle.bb_shell.specs.Rounds.{best_of, followed_by, outcome_by, round_by, rounds_by, sound_answer}
 use Rattle.bb_shell.specs.Stages.{saves_of}
 use Rattle.bb_shell.specs.declared.outcome.Outcome.TheVariants as outcomes
+use Rattle.bb_layout.specs.Convert.{convert}
 use Rattle.bb_state.specs.Keyed.{Keyed}
+use Rattle.bb_state.specs.Shows.{IsOwn}
 use Rattle.bb_drill_sessions.specs.Rules.{made_by}
 
 -- ---- by the rounds that are run
@@ -41,21 +43,23 @@ one_saved table round = by (bytes_eq round.table table) refl
     by false e = refl
 
 -- of a work that loads a table, and saves no other that is the same
-module _ (plan : SessionPlan) (table : List ℕ) (needs : needs_table plan.work ≡ true) (kept : kept_before plan.work table ≡ Some table) where
+module _ (plan : SessionPlan) (table : List ℕ) (own : IsOwn plan.keyed.layout table) (needs : needs_table plan.work ≡ true) (kept : kept_before plan.work table ≡ Some table) where
   abbrev MadeWhere : Bool → Option (List ℕ) → List Round → List ℕ
   MadeWhere loads last rounds = unwrap_or (last_area_of (if loads then Some table else None) (saves_of last rounds)) table
 
   made_is : made_by plan table ≡ LastSaved table (rounds_after plan (Some table) (answers_after plan (Ok (Some table))))
   made_is =
-      ap (MadeWhere (needs_table plan.work) (kept_before plan.work table))
+      ap (MadeWhere (needs_table plan.work) (kept_before plan.work (convert plan.keyed.layout table)))
       (session_after plan (Some table) (answers_after plan (Ok (Some table))))
-      ∙ ap (λ n. MadeWhere n (kept_before plan.work table) (rounds_after plan (Some table) (answers_after plan (Ok (Some table))))) needs
-      ∙ ap (λ k. MadeWhere true k (rounds_after plan (Some table) (answers_after plan (Ok (Some table))))) kept
+      ∙ ap (λ n. MadeWhere n (kept_before plan.work (convert plan.keyed.layout table)) (rounds_after plan (Some table) (answers_after plan (Ok (Some table))))) needs
+      ∙ ap (λ k. MadeWhere true k (rounds_after plan (Some table) (answers_after plan (Ok (Some table))))) (ap (kept_before plan.work) own ∙ kept)
 
   pub made_after : (acts : Acts) → acts_of plan.keyed.layout plan.work table ≡ acts →
       made_by plan table ≡ LastSaved table (rounds_for (start_plans_of plan.work) acts (sound_answers acts))
   made_after acts is =
-      made_is ∙ ap (λ (a : Acts). LastSaved table (rounds_for (start_plans_of plan.work) a (sound_answers a))) is
+      made_is
+      ∙ ap (λ (a : Acts). LastSaved table (rounds_for (start_plans_of plan.work) a (sound_answers a)))
+      (ap (acts_of plan.keyed.layout plan.work) own ∙ is)
 
   -- by one save
   pub made_once : (saved : List ℕ) → acts_of plan.keyed.layout plan.work table ≡ SavesOnce saved → saved ≡ made_by plan table
@@ -64,7 +68,7 @@ module _ (plan : SessionPlan) (table : List ℕ) (needs : needs_table plan.work 
 
 -- ---- a mark
 
-module _ (keyed : Keyed) (targets : Binding) (table : List ℕ) where
+module _ (keyed : Keyed) (targets : Binding) (table : List ℕ) (own : IsOwn keyed.layout table) where
   abbrev Marks : SessionPlan
   Marks = record { keyed = keyed; work = Good targets }
 
@@ -75,10 +79,10 @@ module _ (keyed : Keyed) (targets : Binding) (table : List ℕ) where
       by None e =
           let not : IsSome (chosen_target targets table) → ⊥ = λ some. false≢true (sym (ap is_some e) ∙ some) in
           lost_unchanged targets table not
-          ∙ sym (made_after Marks table refl refl (Stops (LostPlace (last_chosen_of targets table)))
+          ∙ sym (made_after Marks table own refl refl (Stops (LostPlace (last_chosen_of targets table)))
           (ap (λ o. marks_of o (mark_good_of targets table)) (lost_is targets table not)))
       by (Some target) e =
-          made_once Marks table refl refl (mark_good_of targets table) (chosen_acts keyed.layout targets table (subst IsSome (sym e) refl))
+          made_once Marks table own refl refl (mark_good_of targets table) (chosen_acts keyed.layout targets table (subst IsSome (sym e) refl))
 
 -- ---- a boot
 
@@ -96,9 +100,9 @@ module _ (targets : Binding) (cause : Cause) (plans : List (Option StartPlan)) (
   abbrev ActsWhere : Bool → Acts
   ActsWhere none = if none then Stops NoneBest else BootsFrom targets Table
 
-  pub boot_kept : (keyed : Keyed) → NoneQualifies targets Table → table ≡ made_by (PlanOn keyed) table
-  boot_kept keyed none =
-      sym (made_after (PlanOn keyed) table refl refl (Stops NoneBest) (ap (λ o. ActsWhere (is_none o)) (best_none targets Table none)))
+  pub boot_kept : (keyed : Keyed) → IsOwn keyed.layout table → NoneQualifies targets Table → table ≡ made_by (PlanOn keyed) table
+  boot_kept keyed own none =
+      sym (made_after (PlanOn keyed) table own refl refl (Stops NoneBest) (ap (λ o. ActsWhere (is_none o)) (best_none targets Table none)))
 
   -- the first round starts its target
   abbrev Started : ℕ → Round
@@ -121,11 +125,11 @@ module _ (targets : Binding) (cause : Cause) (plans : List (Option StartPlan)) (
       best
       ∙ followed target (rounds_by targets plans (round_by targets plans Table sound_answer target).table (sounds n)) (plan_at plans target) some
 
-  pub boot_made : (keyed : Keyed) (target : ℕ) → IsBest targets Table target → IsSome (plan_at plans target) →
+  pub boot_made : (keyed : Keyed) (target : ℕ) → IsOwn keyed.layout table → IsBest targets Table target → IsSome (plan_at plans target) →
       spend_of targets Table target ≡ made_by (PlanOn keyed) table
-  boot_made keyed target best some =
+  boot_made keyed target own best some =
       let found = best_is targets Table target best in
       sym
-      (made_after (PlanOn keyed) table refl refl (BootsFrom targets Table) (ap (λ o. ActsWhere (is_none o)) found)
+      (made_after (PlanOn keyed) table own refl refl (BootsFrom targets Table) (ap (λ o. ActsWhere (is_none o)) found)
       ∙ ap (LastSaved table) (one_round target found some (all_attempts targets Table) (total_some targets Table target best))
       ∙ one_saved table (Started target))

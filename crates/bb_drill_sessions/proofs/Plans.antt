@@ -11,7 +11,7 @@ use Rattle.bb_layout.specs.Layout.{Laid}
 use Rattle.bb_actions.specs.declared.bound_action.BoundAction.{BoundAction}
 use Rattle.bb_plan.proofs.Readings.{same_over}
 use Rattle.bb_plan.specs.FilesRead.{FileAnswer, IsReadAs, Reading, Reads, Yields, Fails, and_then, files_answer, reading_of, result_on, result_over}
-use Rattle.bb_plan.specs.Plan.{Drills, OnCopies, Prints, SessionPlan, Task, acting, command_reading, described_reading, on_copies, on_keyed, plan_as, plan_reading, planned, task_as, work_reading, words_reading}
+use Rattle.bb_plan.specs.Plan.{Compares, Drills, OnCopies, Prints, SessionPlan, Task, acting, command_reading, described_reading, on_copies, on_keyed, plan_as, plan_reading, planned, task_as, work_reading, words_reading}
 use Rattle.bb_plan.specs.declared.plan.PlannedTask.TheVariants as tasks
 use Rattle.bb_plan.specs.declared.plan.PlannedWork.{PlannedWork}
 use Rattle.bb_plan.specs.declared.refusal.Refusal.TheVariants as refusals
@@ -81,6 +81,8 @@ none_acted (Err refusal) work h = absurd cc
 none_started : (files : FileMap) (request : Request) (layout : Laid) (work : Work) →
     result_over files (work_reading request layout) ≡ Ok work → starts_by request ≡ false →
     start_plans_of work ≡ []
+none_started files requests.History layout work h e =
+    ap start_plans_of (sym (same_Ok works.History work h))
 none_started files (requests.Act actions) layout work h e =
     let bound = actions_by layout.vars actions in
     none_acted bound work (sym (over_of files (acting bound)) ∙ h)
@@ -135,6 +137,7 @@ planned_back : (given : Result Task Refusal) (plan : SessionPlan) → planned gi
 planned_back (Ok (OnCopies other)) plan h = (let same : other ≡ plan = cc in ap (λ (p : SessionPlan). Ok (OnCopies p)) same)
 planned_back (Ok (Prints text)) plan h = absurd cc
 planned_back (Ok (Drills numbers)) plan h = absurd cc
+planned_back (Ok (Compares place)) plan h = absurd cc
 planned_back (Err refusal) plan h = absurd cc
 
 abbrev BoardKeyed : Result Keyed Refusal

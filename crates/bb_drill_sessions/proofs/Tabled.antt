@@ -11,18 +11,24 @@ use Rattle.bb_bucket.specs.Kind.{BucketKind, part_of}
 use Rattle.bb_copies.specs.Passing.{passing_of, passings}
 use Rattle.bb_flash.specs.Device.{Device}
 use Rattle.bb_flash.specs.Image.{Image}
+use Rattle.bb_layout.proofs.Converting.{convert_length}
+use Rattle.bb_layout.specs.Kept.{IsLaid}
+use Rattle.bb_layout.specs.Layout.{Laid}
 use Rattle.bb_plan.specs.Plan.{SessionPlan, first_area}
 use Rattle.bb_plan.specs.declared.plan.Work.{Work}
+use Rattle.bb_plan.specs.declared.plan.Work.TheVariants.{History, Show}
 use Rattle.bb_session.proofs.Acted.{by_work, session_after}
 use Rattle.bb_session.proofs.Faulting.{copies_are}
-use Rattle.bb_session.specs.Acting.{WorkAnswers, kept_before, needs_table}
+use Rattle.bb_session.specs.Acting.{WorkAnswers, acts_of, kept_before, needs_table, sound_answers, start_plans_of, rounds_for}
 use Rattle.bb_session.specs.Exactly.{PassAlike, last_area, last_area_of, saves_made}
 use Rattle.bb_session.specs.Looking.{first_found, passed_in}
 use Rattle.bb_session.specs.Session.{LoadAnswer, answers_after, loaded_area}
 use Rattle.bb_session.specs.Work.{IsWork}
 use Rattle.bb_shell.specs.Stages.{saves_of}
 use Rattle.bb_state.specs.Keyed.{Keyed}
+use Rattle.bb_state.proofs.Showing.{own_sized}
 use Rattle.bb_state.specs.Kinds.{laid_form, laid_kinds}
+use Rattle.bb_state.specs.Shows.{IsOwn}
 use Rattle.bb_drill_sessions.specs.Rules.{made_by}
 
 -- ---- copies that pass alike
@@ -53,16 +59,23 @@ found_after keyed page (Some area) x z some alike =
 
 -- ---- the area that was saved last
 
+-- work that only reads has none
+none_last : (plan : SessionPlan) (others : WorkAnswers) (found : Option (List ℕ)) → needs_table plan.work ≡ false →
+    is_some (last_area plan found others) ≡ false
+none_last plan others found reads = by plan.work reads
+  where
+    by : (w : Work) → needs_table w ≡ false → is_some (last_area (record { keyed = plan.keyed; work = w }) found others) ≡ false
+    by Show reads = refl
+    by History reads = refl
+    by _ reads = absurd cc
+
 -- work that loads or saves one has copies
 pub has_copies : (plan : SessionPlan) (from to : Device) (load : LoadAnswer) (answers others : WorkAnswers) (found : Option (List ℕ)) →
     IsWork plan from to load answers → is_some (last_area plan found others) ≡ true → 1 ≤ plan.keyed.layout.copies
 has_copies plan from to load answers others found work some =
     by_work plan from to load answers work
     (λ needs done. let many = done.many in omega (arith, many))
-    (λ shows done.
-    absurd
-    (false≢true
-    (sym (ap (λ (w : Work). is_some (last_area (record { keyed = plan.keyed; work = w }) found others)) shows) ∙ some)))
+    (λ reads done. absurd (false≢true (sym (none_last plan others found reads) ∙ some)))
 
 -- what was loaded is the defaults where no copy passed
 last_either : (needs : Bool) (areas : List (List ℕ)) (first : List ℕ) →
@@ -75,21 +88,36 @@ last_either false areas first = refl
 abbrev LastOf : SessionPlan → Option (List ℕ) → Option (List ℕ)
 LastOf plan found = last_area plan found (answers_after plan (Ok found))
 
--- and the same is saved then
-same_saves : (plan : SessionPlan) (answers : WorkAnswers) →
-    saves_made plan None answers ≡ saves_made plan (Some (first_area plan.keyed.layout)) answers
-same_saves plan answers =
-    ap (saves_of (kept_before plan.work (loaded_area plan.keyed.layout None)))
-    (session_after plan None answers ∙ sym (session_after plan (Some (first_area plan.keyed.layout)) answers))
+-- a conversion of the empty area is one of the layout's
+first_own : (layout : Laid) → IsLaid layout → IsOwn layout (first_area layout)
+first_own layout facts =
+    own_sized layout (first_area layout) facts (convert_length layout.area_len layout.vars [] facts.vars_are)
 
-none_loaded : (plan : SessionPlan) →
+-- what is saved after a load of this table, where nothing fails
+abbrev SavesOn : SessionPlan → List ℕ → List (List ℕ)
+SavesOn plan table =
+    saves_of (kept_before plan.work table)
+    (rounds_for (start_plans_of plan.work) (acts_of plan.keyed.layout plan.work table) (sound_answers (acts_of plan.keyed.layout plan.work table)))
+
+saves_on : (plan : SessionPlan) (found : Option (List ℕ)) →
+    saves_made plan found (answers_after plan (Ok found)) ≡ SavesOn plan (loaded_area plan.keyed.layout found)
+saves_on plan found =
+    ap (λ rounds. saves_of (kept_before plan.work (loaded_area plan.keyed.layout found)) rounds) (session_after plan found (answers_after plan (Ok found)))
+
+-- and the same is saved where the defaults were loaded
+same_saves : (plan : SessionPlan) → IsOwn plan.keyed.layout (first_area plan.keyed.layout) →
+    saves_made plan None (answers_after plan (Ok None))
+    ≡ saves_made plan (Some (first_area plan.keyed.layout)) (answers_after plan (Ok (Some (first_area plan.keyed.layout))))
+same_saves plan own =
+    saves_on plan None ∙ ap (SavesOn plan) (sym own) ∙ sym (saves_on plan (Some (first_area plan.keyed.layout)))
+
+none_loaded : (plan : SessionPlan) → IsOwn plan.keyed.layout (first_area plan.keyed.layout) →
     unwrap_or (LastOf plan None) (first_area plan.keyed.layout)
     ≡ unwrap_or (LastOf plan (Some (first_area plan.keyed.layout))) (first_area plan.keyed.layout)
-none_loaded plan =
+none_loaded plan own =
     let first = first_area plan.keyed.layout in
-    let answers = answers_after plan (Ok None) in
-    last_either (needs_table plan.work) (saves_made plan None answers) first
-    ∙ ap (λ areas. unwrap_or (last_area_of (if needs_table plan.work then Some first else None) areas) first) (same_saves plan answers)
+    last_either (needs_table plan.work) (saves_made plan None (answers_after plan (Ok None))) first
+    ∙ ap (λ areas. unwrap_or (last_area_of (if needs_table plan.work then Some first else None) areas) first) (same_saves plan own)
 
 or_none : (last : Option (List ℕ)) (first : List ℕ) → unwrap_or (option_or last None) first ≡ unwrap_or last first
 or_none None first = refl
@@ -99,19 +127,19 @@ or_some : (last : Option (List ℕ)) (area first : List ℕ) → unwrap_or (opti
 or_some None area first = refl
 or_some (Some other) area first = refl
 
-made_of : (plan : SessionPlan) (found : Option (List ℕ)) →
+made_of : (plan : SessionPlan) (found : Option (List ℕ)) → IsOwn plan.keyed.layout (first_area plan.keyed.layout) →
     unwrap_or (option_or (LastOf plan found) found) (first_area plan.keyed.layout)
     ≡ made_by plan (unwrap_or found (first_area plan.keyed.layout))
-made_of plan None = or_none (LastOf plan None) (first_area plan.keyed.layout) ∙ none_loaded plan
-made_of plan (Some area) = or_some (LastOf plan (Some area)) area (first_area plan.keyed.layout)
+made_of plan None own = or_none (LastOf plan None) (first_area plan.keyed.layout) ∙ none_loaded plan own
+made_of plan (Some area) own = or_some (LastOf plan (Some area)) area (first_area plan.keyed.layout)
 
 -- the table that a load gives after the session is what the session makes of the one before
-pub table_after : (plan : SessionPlan) (page : ℕ) (x z : Image) →
+pub table_after : (plan : SessionPlan) (page : ℕ) (x z : Image) → IsLaid plan.keyed.layout →
     (is_some (LastOf plan (first_found (passed_in plan.keyed page x))) ≡ true → 1 ≤ plan.keyed.layout.copies) →
     PassAlike plan.keyed page (LastOf plan (first_found (passed_in plan.keyed page x))) x z →
     unwrap_or (first_found (passed_in plan.keyed page z)) (first_area plan.keyed.layout)
     ≡ made_by plan (unwrap_or (first_found (passed_in plan.keyed page x)) (first_area plan.keyed.layout))
-table_after plan page x z some alike =
+table_after plan page x z facts some alike =
     let found = first_found (passed_in plan.keyed page x) in
     ap (λ o. unwrap_or o (first_area plan.keyed.layout)) (found_after plan.keyed page (LastOf plan found) x z some alike)
-    ∙ made_of plan found
+    ∙ made_of plan found (first_own plan.keyed.layout facts)

@@ -11,22 +11,25 @@ use Rattle.bb_flash.specs.Image.{Image}
 use Rattle.bb_flash.specs.Memory.{Memory, device_of}
 use Rattle.bb_flash.specs.declared.geometry.Geometry.{Geometry}
 use Rattle.bb_flash.specs.declared.plan.Plan.{Plan as StartPlan}
+use Rattle.bb_layout.specs.Kept.{IsLaid}
 use Rattle.bb_plan.specs.Plan.{EarlyEnd, SessionPlan, first_area}
 use Rattle.bb_plan.specs.Refusal.{status_of}
 use Rattle.bb_plan.specs.declared.refusal.Refusal.{Refusal}
 use Rattle.bb_plan.specs.declared.refusal.Refusal.TheVariants as refusals
 use Rattle.bb_plan.specs.declared.status.Status.{Status}
 use Rattle.bb_plan.specs.declared.status.Status.TheVariants as statuses
-use Rattle.bb_session.proofs.Barred.{HasMemory, HasNoFault, fault_device, is_device_fault, is_memory}
+use Rattle.bb_session.proofs.Barred.{HasMemory, HasNoFault, fault_call, is_call_fault, is_memory}
+use Rattle.bb_session.proofs.Acted.{session_after}
 use Rattle.bb_session.proofs.Exact.{plan_done, plan_makes}
-use Rattle.bb_session.proofs.Unrefused.{unrefused, work_gives, work_same}
-use Rattle.bb_session.specs.Acting.{WorkAnswers, kept_before, taken_by}
+use Rattle.bb_session.proofs.Unrefused.{sound_with, unrefused, work_gives, work_same}
+use Rattle.bb_session.specs.Acting.{Acts, BootsFrom, Lists, Plays, SavesAround, SavesNone, SavesOnce, Stops, WorkAnswers, kept_before, rounds_for, start_plans_of, taken_by}
 use Rattle.bb_session.specs.Booting.{start_of}
-use Rattle.bb_session.specs.Exactly.{CopyWrite, EachContent, EachTold, LeavesRegions, PassAlike, erases_in, last_area, last_area_of, loaded_region, saved_region, saves_made, sum_of_writes, worked_region, writes_of_load, writes_of_saves, writes_of_work}
-use Rattle.bb_session.specs.Looking.{first_found, passed_in}
-use Rattle.bb_session.specs.Session.{LoadAnswer, Session, answers_after, ended_status, loaded_area, work_session}
+use Rattle.bb_session.specs.Exactly.{CopyWrite, EachContent, EachTold, LeavesRegions, PassAlike, erases_in, last_area, last_area_of, loaded_region, place_after, saved_region, saves_made, slot_erases, sum_of_writes, worked_region, writes_of_load, writes_of_saves, writes_of_work}
+use Rattle.bb_session.specs.Looking.{first_found, listed_by, passed_in}
+use Rattle.bb_session.specs.Session.{LoadAnswer, Session, acts_after, answers_after, ended_status, loaded_area, work_session}
 use Rattle.bb_session.specs.Work.{Gives, IsWork, IsWorkedOut}
 use Rattle.bb_session.specs.declared.report.Report.{Report}
+use Rattle.bb_shell.specs.Boot.{Round}
 use Rattle.bb_shell.specs.Stages.{saves_of}
 use Rattle.bb_state.specs.Keyed.{Keyed}
 use Rattle.bb_state.specs.Kinds.{laid_form, laid_kinds}
@@ -41,12 +44,12 @@ use Rattle.bb_drill_sessions.proofs.Tabled.{has_copies, table_after}
 -- ---- where nothing fails: what is left hangs on the saves that are made
 
 module _ (plan : SessionPlan) (found : Option (List ℕ)) (one two : WorkAnswers)
-    (same : work_session plan (Ok found) one ≡ work_session plan (Ok found) two) where
+    (same : (work_session plan (Ok found) one).rounds ≡ (work_session plan (Ok found) two).rounds) where
   abbrev Taken : Option (List ℕ)
   Taken = taken_by plan.work found
 
   saves_same : saves_made plan found one ≡ saves_made plan found two
-  saves_same = ap (λ (s : Session). saves_of (kept_before plan.work (loaded_area plan.keyed.layout found)) s.rounds) same
+  saves_same = ap (saves_of (kept_before plan.work (loaded_area plan.keyed.layout found))) same
 
   region_same : (kind : BucketKind) (region : Image) → worked_region plan found one kind region ≡ worked_region plan found two kind region
   region_same kind region =
@@ -63,6 +66,26 @@ module _ (plan : SessionPlan) (found : Option (List ℕ)) (one two : WorkAnswers
 
   last_same : last_area plan found one ≡ last_area plan found two
   last_same = ap (last_area_of Taken) saves_same
+
+-- what is listed makes no round
+listed_aside : (plan : SessionPlan) (found : Option (List ℕ)) (text : List ℕ) →
+    (work_session plan (Ok found) (sound_with text (answers_after plan (Ok found)))).rounds
+    ≡ (work_session plan (Ok found) (answers_after plan (Ok found))).rounds
+listed_aside plan found text =
+    let sound = answers_after plan (Ok found) in
+    session_after plan found (sound_with text sound)
+    ∙ by (acts_after plan found) sound
+    ∙ sym (session_after plan found sound)
+  where
+    by : (acts : Acts) (answers : WorkAnswers) →
+        rounds_for (start_plans_of plan.work) acts (sound_with text answers) ≡ rounds_for (start_plans_of plan.work) acts answers
+    by SavesNone answers = refl
+    by Lists answers = refl
+    by (Stops bar) answers = refl
+    by (SavesOnce table) answers = refl
+    by (SavesAround first place second) answers = refl
+    by (BootsFrom targets table) answers = refl
+    by (Plays script known) answers = refl
 
 -- ---- a plan that was followed
 
@@ -115,10 +138,14 @@ module _ (plan : SessionPlan) (before after : Memory) (geometry : before.geometr
   whole : HasNoFault (work_session plan (Ok found) answers)
   whole = unrefused plan (device_of before) (device_of after) (Ok found) answers work calm.calls
 
-  same : work_session plan (Ok Held) answers ≡ work_session plan (Ok Held) Sound
+  -- the rounds are those of answers that refuse nothing, whatever these list
+  same : (work_session plan (Ok Held) answers).rounds ≡ (work_session plan (Ok Held) Sound).rounds
   same =
-      subst (λ f. work_session plan (Ok f) answers ≡ work_session plan (Ok f) (answers_after plan (Ok f))) held_is
-      (work_same plan (device_of before) (device_of after) found answers work whole memory (inr calm.starts))
+      subst
+      (λ f. (work_session plan (Ok f) answers).rounds ≡ (work_session plan (Ok f) (answers_after plan (Ok f))).rounds) held_is
+      (ap (λ (s : Session). s.rounds)
+      (work_same plan (device_of before) (device_of after) found answers work whole memory X refl (inr calm.starts))
+      ∙ listed_aside plan found (listed_by plan.work plan.keyed before.geometry.page X))
 
   left : LeavesRegions (laid_kinds plan.keyed.layout) board_geometry.page (worked_region plan Held answers) X Y
   left =
@@ -136,23 +163,25 @@ module _ (plan : SessionPlan) (before after : Memory) (geometry : before.geometr
 
   erased : (block n : ℕ) → slice_get before.told.erases block ≡ Some n →
       slice_get after.told.erases block
-      ≡ Some (n + sum_of_writes (erases_in (laid_form plan.keyed) board_geometry block)
-      (writes_of_work plan Held Sound) (laid_kinds plan.keyed.layout) board_geometry.page X)
+      ≡ Some (n + (sum_of_writes (erases_in (laid_form plan.keyed) board_geometry block)
+      (writes_of_work plan Held Sound) (laid_kinds plan.keyed.layout) board_geometry.page X
+      + slot_erases board_geometry (place_after plan Held) block))
   erased = λ block n there.
       subst
       (λ (g : Geometry). slice_get after.told.erases block
-      ≡ Some (n + sum_of_writes (erases_in (laid_form plan.keyed) g block)
-      (writes_of_work plan (FoundAt g.page) answers) (laid_kinds plan.keyed.layout) g.page X)) geometry
+      ≡ Some (n + (sum_of_writes (erases_in (laid_form plan.keyed) g block)
+      (writes_of_work plan (FoundAt g.page) answers) (laid_kinds plan.keyed.layout) g.page X
+      + slot_erases g (place_after plan (FoundAt g.page)) block))) geometry
       ((plan_makes plan (device_of before) (device_of after) (Ok found) answers work calm.calls before.told after.told refl refl).erased block n there)
-      ∙ ap (λ k. Some (n + k))
+      ∙ ap (λ k. Some (n + (k + slot_erases board_geometry (place_after plan Held) block)))
       (writes_same plan Held answers Sound same
       (λ writes. sum_of_writes (erases_in (laid_form plan.keyed) board_geometry block) writes (laid_kinds plan.keyed.layout) board_geometry.page X))
 
   start : MakesStart (start_at (Ok plan) (board_state_of before)) (board_state_of before) (board_state_of after)
   start =
       makes_start (start_at (Ok plan) (board_state_of before)) before after
-      (subst (λ (s : Session). AddsOne (start_of plan.work s.rounds) (device_of before) (device_of after))
-      (ap (λ f. work_session plan (Ok f) answers) held_is ∙ same)
+      (subst (λ (rounds : List Round). AddsOne (start_of plan.work rounds) (device_of before) (device_of after))
+      (ap (λ f. (work_session plan (Ok f) answers).rounds) held_is ∙ same)
       (work_start plan (device_of before) (device_of after) (Ok found) answers work))
 
   pub followed_sound : IsFollowedSound (Ok plan) (board_state_of before) (board_state_of after)
@@ -166,16 +195,18 @@ module _ (plan : SessionPlan) (before after : Memory) (geometry : before.geometr
         each_told plan
         (λ f first last. (block n : ℕ) → slice_get first.erases block ≡ Some n →
         slice_get last.erases block
-        ≡ Some (n + sum_of_writes (erases_in (laid_form plan.keyed) board_geometry block)
-        (writes_of_work plan f (answers_at (Ok plan) (board_state_of before))) (laid_kinds plan.keyed.layout) board_geometry.page first.image))
+        ≡ Some (n + (sum_of_writes (erases_in (laid_form plan.keyed) board_geometry block)
+        (writes_of_work plan f (answers_at (Ok plan) (board_state_of before))) (laid_kinds plan.keyed.layout) board_geometry.page first.image
+        + slot_erases board_geometry (place_after plan f) block)))
         (board_state_of before) (board_state_of after) erased;
     started = start;
   }
 
-  pub table_is : unwrap_or (first_found (passed_in plan.keyed board_geometry.page Y)) (first_area plan.keyed.layout)
+  pub table_is : IsLaid plan.keyed.layout →
+      unwrap_or (first_found (passed_in plan.keyed board_geometry.page Y)) (first_area plan.keyed.layout)
       ≡ made_by plan (unwrap_or Held (first_area plan.keyed.layout))
-  table_is =
-      table_after plan board_geometry.page X Y
+  table_is facts =
+      table_after plan board_geometry.page X Y facts
       (has_copies plan (device_of before) (device_of after) (Ok found) answers Sound Held work) alike
 
 -- ---- the session of a command
@@ -184,22 +215,22 @@ abbrev TableIs : Option Keyed → Result SessionPlan EarlyEnd → Image → Imag
 TableIs keyed plan x y =
     unwrap_or (table_found keyed y) (table_first keyed) ≡ table_made plan (unwrap_or (table_found keyed x) (table_first keyed))
 
-whole_session : (command : DrillCommand) (plan : SessionPlan) → drill_plan command ≡ Ok plan → (before after : Memory) →
+whole_session : (command : DrillCommand) (plan : SessionPlan) → drill_plan command ≡ Ok plan → IsLaid plan.keyed.layout → (before after : Memory) →
     before.geometry ≡ board_geometry → (found : Option (List ℕ)) (answers : WorkAnswers) →
     IsWork plan (device_of before) (device_of after) (Ok found) answers → NothingFailed before after →
     HasMemory (work_session plan (Ok found) answers) →
     IsWholeSession session_rules session_runs command (board_state_of before) (board_state_of after)
-whole_session command plan is before after geometry found answers work calm memory = record {
+whole_session command plan is facts before after geometry found answers work calm memory = record {
   ran =
       subst (λ (p : Result SessionPlan EarlyEnd). IsFollowedSound p (board_state_of before) (board_state_of after)) (sym is)
       (followed_sound plan before after geometry found answers work calm memory);
   table =
       subst (λ (k : Option Keyed). TableIs k (drill_plan command) before.told.image after.told.image) (sym (on_board command plan is).keyed)
       (subst (λ (p : Result SessionPlan EarlyEnd). TableIs (Some plan.keyed) p before.told.image after.told.image) (sym is)
-      (table_is plan before after geometry found answers work calm memory));
+      (table_is plan before after geometry found answers work calm memory facts));
 }
 
-ends_sound : (command : DrillCommand) (x y : BoardState) (status : Status) → is_device_fault status ≡ false →
+ends_sound : (command : DrillCommand) (x y : BoardState) (status : Status) → is_call_fault status ≡ false →
     (is_memory status ≡ false → IsWholeSession session_rules session_runs command x y) →
     EndsSound session_rules session_runs command x y (end_of_status status)
 ends_sound command x y statuses.Done none whole = whole refl
@@ -221,26 +252,32 @@ ends_sound command x y statuses.StepLimit none whole = tt
 ends_sound command x y statuses.SinkFault none whole = tt
 ends_sound command x y statuses.BadKey none whole = tt
 ends_sound command x y statuses.NoGood none whole = whole refl
+ends_sound command x y statuses.BadTarget none whole = tt
+ends_sound command x y statuses.BadSlot none whole = tt
+ends_sound command x y statuses.BadDigest none whole = tt
+ends_sound command x y statuses.ImageTooLong none whole = tt
+ends_sound command x y statuses.LastTarget none whole = tt
+ends_sound command x y statuses.SlotFault none whole = absurd cc
 ends_sound command x y statuses.NoMemory none whole = tt
 
 given_status : (session : Session) (given : Result Report Refusal) → Gives session given → ended_status session ≡ status_given given
 given_status session (Ok report) gives = ap (λ r. option_map_or status_of r statuses.Done) gives.1
 given_status session (Err refusal) gives = ap (λ r. option_map_or status_of r statuses.Done) gives.1
 
-done_sound : (command : DrillCommand) (plan : SessionPlan) → drill_plan command ≡ Ok plan → (before after : Memory) →
+done_sound : (command : DrillCommand) (plan : SessionPlan) → drill_plan command ≡ Ok plan → IsLaid plan.keyed.layout → (before after : Memory) →
     before.geometry ≡ board_geometry → (load : LoadAnswer) (answers : WorkAnswers) →
     IsWork plan (device_of before) (device_of after) load answers → NothingFailed before after → (given : Result Report Refusal) →
     Gives (work_session plan load answers) given →
     EndsSound session_rules session_runs command (board_state_of before) (board_state_of after) (end_given given)
-done_sound command plan is before after geometry (Err fault) answers work calm given gives =
+done_sound command plan is facts before after geometry (Err fault) answers work calm given gives =
     let whole = unrefused plan (device_of before) (device_of after) (Err fault) answers work calm.calls in
-    absurd (let h : true ≡ false = sym (fault_device fault) ∙ whole in cc)
-done_sound command plan is before after geometry (Ok found) answers work calm given gives =
+    absurd (let h : true ≡ false = sym (fault_call fault) ∙ whole in cc)
+done_sound command plan is facts before after geometry (Ok found) answers work calm given gives =
     let none = unrefused plan (device_of before) (device_of after) (Ok found) answers work calm.calls in
     subst (λ (s : Status). EndsSound session_rules session_runs command (board_state_of before) (board_state_of after) (end_of_status s))
     (given_status (work_session plan (Ok found) answers) given gives)
     (ends_sound command (board_state_of before) (board_state_of after) (ended_status (work_session plan (Ok found) answers)) none
-    (λ memory. whole_session command plan is before after geometry found answers work calm memory))
+    (λ memory. whole_session command plan is facts before after geometry found answers work calm memory))
 
 -- where memory was refused nothing is said
 short_sound : (command : DrillCommand) (x y : BoardState) (given : Result Report Refusal) → given ≡ Err refusals.NoMemory →
@@ -248,13 +285,13 @@ short_sound : (command : DrillCommand) (x y : BoardState) (given : Result Report
 short_sound command x y given is =
     subst (λ (r : Result Report Refusal). EndsSound session_rules session_runs command x y (end_given r)) (sym is) tt
 
-pub sound_of : (command : DrillCommand) (plan : SessionPlan) → drill_plan command ≡ Ok plan → (before after : Memory) →
+pub sound_of : (command : DrillCommand) (plan : SessionPlan) → drill_plan command ≡ Ok plan → IsLaid plan.keyed.layout → (before after : Memory) →
     before.geometry ≡ board_geometry → (given : Result Report Refusal) →
     IsWorkedOut plan.keyed plan.work (device_of before) (device_of after) given → NothingFailed before after →
     EndsSound session_rules session_runs command (board_state_of before) (board_state_of after) (end_given given)
-sound_of command plan is before after geometry given (inl done) calm =
-    done_sound command plan is before after geometry done.load done.answers done.work calm given done.gives
-sound_of command plan is before after geometry given (inr (inl text)) calm =
+sound_of command plan is facts before after geometry given (inl done) calm =
+    done_sound command plan is facts before after geometry done.load done.answers done.work calm given done.gives
+sound_of command plan is facts before after geometry given (inr (inl text)) calm =
     short_sound command (board_state_of before) (board_state_of after) given text.is
-sound_of command plan is before after geometry given (inr (inr memory)) calm =
+sound_of command plan is facts before after geometry given (inr (inr memory)) calm =
     short_sound command (board_state_of before) (board_state_of after) given memory.is

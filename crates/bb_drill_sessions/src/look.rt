@@ -15,7 +15,7 @@ use bb_flash::{Flash, MemBoard};
 use bb_state::State;
 use std::alloc::Global;
 
-/// The table of the first copy that passes on the board, if one does.
+/// The area of the first copy that passes on the board, as it is stored, if one does.
 pub(crate) fn look(alloc: Global, board: &mut MemBoard) -> Result<Option<Bytes>, NoMemory>
     requires { board.old.geometry ≡ board_geometry }
     ensures found { IfOk result (λ found. found ≡ table_found board_keyed board.old.told.image) }
@@ -28,7 +28,7 @@ pub(crate) fn look(alloc: Global, board: &mut MemBoard) -> Result<Option<Bytes>,
     look_at(alloc, board, &mut state)
 }
 
-// The area of the first copy of a state that passes, if one does.
+// The area of the first copy of a state that passes, as it is stored, if one does.
 fn look_at<F: Flash>(
     alloc: Global,
     flash: &mut F,
@@ -49,6 +49,6 @@ fn look_at<F: Flash>(
         return Ok(None);
     }
     let mut table = Bytes::none(alloc);
-    table.add(area.as_slice())?;
+    table.add(state.stored())?;
     Ok(Some(table))
 }

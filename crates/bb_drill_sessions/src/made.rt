@@ -1,11 +1,13 @@
-ghost use Rattle.std.specs.Prelude.{◌≡◌, IfOk, OnOk, length};
+ghost use Rattle.std.specs.Prelude.{◌≡◌, [], IfOk, OnOk, length};
 ghost use Rattle.bb_chooser.specs.Counting.{mark_good_of};
 ghost use Rattle.bb_drill_sessions.specs.Plans.{board_keyed, drill_plan};
 ghost use Rattle.bb_drill_sessions.specs.Rules.{made_by, table_first, table_made};
-ghost use Rattle.bb_layout.specs.Defaults.{defaults_of};
+ghost use Rattle.bb_layout.specs.Convert.{convert};
+ghost use Rattle.bb_layout.specs.Layout.{fields_of};
 ghost use Rattle.bb_plan.specs.Plan.{IsServed, keyed_as, plan_as};
 ghost use Rattle.bb_plan.specs.declared.plan.Work.TheVariants as works;
 ghost use Rattle.bb_state.specs.Keyed.{Keyed};
+ghost use Rattle.bb_state.specs.Shows.{IsOwn};
 
 use crate::plan::plan_of;
 use bb_actions::put_values;
@@ -28,11 +30,10 @@ pub(crate) fn first_table(alloc: Global) -> Result<Bytes, NoMemory>
 }
 
 fn defaults(alloc: Global, layout: &Layout) -> Result<Bytes, NoMemory>
-    ensures { IfOk result (λ table.
-        table ≡ defaults_of layout.now.area_len layout.now.vars) }
+    ensures { IfOk result (λ table. table ≡ convert (fields_of layout.now) []) }
 {
     let mut area = vec![in alloc; 0u8; layout.area_len as usize]?;
-    layout.defaults(&mut area);
+    layout.convert(&[], &mut area);
     bytes_of(alloc, &area)
 }
 
@@ -58,8 +59,9 @@ fn bytes_of(alloc: Global, slice: &[u8]) -> Result<Bytes, NoMemory>
     Ok(bytes)
 }
 
-// Makes of a table what the work of a plan does. The drill has no work that saves an area or runs a
-// script, and none whose best target has no plan.
+// Makes of a table what the work of a plan does. The drill has no work that saves an area, runs a
+// script or installs an image, and none whose best target has no plan. A look and a history make
+// nothing of it.
 fn follow(plan: &PlannedWork, table: &mut Table) -> Result<(), NoMemory>
     requires served { IsServed (keyed_as plan.now.keyed) plan.now.work }
     requires sized { length table.old ≡ plan.now.keyed.layout.area_len }
@@ -67,8 +69,10 @@ fn follow(plan: &PlannedWork, table: &mut Table) -> Result<(), NoMemory>
 {
     match &plan.work {
         Work::Show => {}
+        Work::History => {}
         Work::Write(_) => return Err(NoMemory),
         Work::Run(_, _, _, _) => return Err(NoMemory),
+        Work::Install(_, _, _) => return Err(NoMemory),
         Work::Act(actions) => put_values(table, actions),
         Work::Good(chooser) => mark(chooser, table),
         Work::Boot(chooser, cause, plans) => spend(chooser, *cause, plans, table)?,
@@ -92,10 +96,11 @@ fn spend(
     table: &mut Table,
 ) -> Result<(), NoMemory>
     requires { length table.old ≡ chooser.now.area_len }
-    ensures { OnOk result ((keyed : Keyed) → table.new ≡ made_by (record {
-      keyed = keyed;
-      work = works.Boot chooser.now cause plans.now;
-    }) table.old) }
+    ensures { OnOk result ((keyed : Keyed) → IsOwn keyed.layout table.old
+        → table.new ≡ made_by (record {
+          keyed = keyed;
+          work = works.Boot chooser.now cause plans.now;
+        }) table.old) }
 {
     let Some(target) = chooser.choose_after(table, cause) else {
         return Ok(());

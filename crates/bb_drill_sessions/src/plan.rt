@@ -32,5 +32,6 @@ pub(crate) fn plan_of(alloc: Global, command: DrillCommand) -> Result<PlannedWor
     match task {
         PlannedTask::OnCopies(plan) => Ok(plan),
         PlannedTask::Prints(_) | PlannedTask::Drills(_) => Err(NoMemory),
+        PlannedTask::Compares(_) => Err(NoMemory),
     }
 }

@@ -15,6 +15,7 @@ use Rattle.bb_dtbrec.specs.Pieces.{fields_again, fields_first, length_pieces_tex
 
 pub record IsSoundPattern (pattern : Pattern) : Type 0 where
   pub front : length pattern.front ≡ 76
+  pub area : pattern.area_len ≤ 65535
   pub small : dtb_length pattern ≤ 0xffffffff
   pub pieces : are_pieces pattern.pieces pattern.area_len ≡ true
 
@@ -23,6 +24,7 @@ sound pattern h =
     let parts = and_parts _ _ h in
     record {
       front = eqb-true _ _ (and_parts _ _ parts.0).0;
+      area = leb-true _ _ (and_parts _ _ parts.0).1;
       small = leb-true _ _ (and_parts _ _ parts.1).0;
       pieces = (and_parts _ _ parts.1).1;
     }
@@ -220,7 +222,11 @@ passed_whole pattern bytes area e = elim (cases_lt (length bytes) (dtb_length pa
 pub dtb_laws : (pattern : Pattern) → IsForm (dtb_form pattern)
 dtb_laws pattern = record {
   most = λ area fits. let same = (fit pattern area fits).whole in omega arith;
-  sized = λ area fits. (fit pattern area fits).whole;
+  limit = λ area fits.
+      let known = fit pattern area fits in
+      let same = known.whole in
+      let small = (sound pattern known.made).area in
+      omega arith;
   whole = text_whole pattern;
   text_passes = text_passes pattern;
   text_fresh = λ area rest fits. refl;

@@ -52,10 +52,7 @@ fn reservation_bytes(alloc: Global, pairs: &PairList) -> Result<Vec<u8>, NoMemor
     ensures { IfOk result (λ bytes. bytes.items ≡ reservation_list pairs.now) }
 {
     let mut bytes = Vec::new(alloc);
-    for i in 0..pairs.len() {
-        let Some(pair) = pairs.get(i) else {
-            unreachable!()
-        };
+    for pair in pairs.as_slice() {
         add_pair(&mut bytes, pair.0, pair.1)?;
     }
     add_pair(&mut bytes, 0, 0)?;

@@ -13,7 +13,6 @@ mod log;
 mod mem_board;
 mod pages;
 mod plan;
-mod plan_list;
 mod region;
 
 pub use board::Board;
@@ -22,6 +21,5 @@ pub use flash::Flash;
 pub use geometry::{Geometry, geometry_of};
 pub use health::Health;
 pub use mem_board::MemBoard;
-pub use plan::Plan;
-pub use plan_list::PlanList;
+pub use plan::{Plan, PlanList};
 pub use region::Region;

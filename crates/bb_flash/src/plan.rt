@@ -1,6 +1,6 @@
 ghost use Rattle.std.specs.Prelude.{◌≡◌, IfOk};
 
-use bb_base::{NoMemory, Text, TextList};
+use bb_base::{List, NoMemory, Text, TextList};
 use std::alloc::Global;
 
 /// What a board is handed to start a system by. A text that isn't given is empty.
@@ -17,6 +17,9 @@ pub struct Plan {
     /// The devicetree's file.
     pub devicetree: Text,
 }
+
+/// The plan of each target, in the order of the targets, or none where a target has none.
+pub type PlanList = List<Option<Plan>>;
 
 impl Plan {
     /// A copy in memory of its own.
@@ -37,10 +40,7 @@ fn copies_of(alloc: Global, texts: &TextList) -> Result<TextList, NoMemory>
     ensures { IfOk result (λ copies. copies ≡ texts.now) }
 {
     let mut copies = TextList::none(alloc);
-    for place in 0..texts.len() {
-        let Some(text) = texts.get(place) else {
-            unreachable!()
-        };
+    for text in texts.as_slice() {
         copies.push(text.copy()?)?;
     }
     Ok(copies)

@@ -1,4 +1,5 @@
 -- Lemmas.
+pub mod Beside
 pub mod Blanking
 pub mod Comparing
 pub mod Counting
@@ -12,4 +13,5 @@ pub mod Places
 pub mod Putting
 pub mod Refusing
 pub mod Standing
+pub mod Stepping
 pub mod Turns

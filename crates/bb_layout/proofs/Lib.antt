@@ -2,6 +2,8 @@
 pub mod Apart
 pub mod Boards
 pub mod Calling
+pub mod ConvertExamples
+pub mod Converting
 pub mod Examples
 pub mod Failing
 pub mod Filling

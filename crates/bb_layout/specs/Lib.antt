@@ -2,9 +2,11 @@
 
 -- What a reader has to believe: what public clauses cite.
 pub mod Backend
+pub mod Convert
 pub mod Copies
 pub mod Defaults
 pub mod Facts
+pub mod Family
 pub mod Fields
 pub mod Formats
 pub mod Kept

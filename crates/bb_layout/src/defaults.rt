@@ -4,7 +4,6 @@ ghost use Rattle.bb_vars.specs.Table.{table_with};
 
 use crate::{Var, VarList};
 
-#[tactic(auto, using(crate::proofs::Filling::defaults_more, crate::proofs::Filling::room_at))]
 /// Fills an area, in which each default has room at its place: zero bytes, and over them the
 /// defaults.
 pub(crate) fn fill_defaults(vars: &VarList, out: &mut [u8])
@@ -12,15 +11,13 @@ pub(crate) fn fill_defaults(vars: &VarList, out: &mut [u8])
     ensures { out.new ≡ defaults_of (length out.old) vars.now }
 {
     out.fill(0);
-    for place in 0..vars.len() {
-        let Some(var) = vars.get(place) else {
-            unreachable!()
-        };
+    for var in vars.as_slice() {
         put_default(var, out);
     }
 }
 
-fn put_default(var: &Var, out: &mut [u8])
+/// Writes a variable's default in its place.
+pub(crate) fn put_default(var: &Var, out: &mut [u8])
     requires { var.now.at + length var.now.default ≤ length out.old }
     ensures put { out.new ≡ table_with out.old var.now.at var.now.default }
     ensures same_length { length out.new ≡ length out.old }

@@ -2,6 +2,7 @@ ghost use Rattle.bb_layout.specs.Facts.{HasFewNames-prop, IsLayout};
 ghost use Rattle.bb_layout.specs.Formats.{record_len};
 ghost use Rattle.std.proofs.Props.{props};
 
+use crate::convert::convert_area;
 use crate::defaults::fill_defaults;
 use crate::placing::spacing;
 use crate::record_tree::record_tree;
@@ -43,6 +44,7 @@ pub struct Layout {
 impl Layout {
     ghost use Rattle.std.specs.Prelude.{◌≡◌, ◌≤◌, ◌<◌, [], IfOk, length};
     ghost use Rattle.bb_tree.specs.NodeViews.{branch_of};
+    ghost use Rattle.bb_layout.specs.Convert.{convert_of};
     ghost use Rattle.bb_layout.specs.Copies.{region_of, room_for};
     ghost use Rattle.bb_layout.specs.Defaults.{defaults_of};
     ghost use Rattle.bb_layout.specs.Facts.{IsAligned, IsWithin};
@@ -80,6 +82,20 @@ impl Layout {
         ensures { out.new ≡ defaults_of self.now.area_len self.now.vars }
     {
         fill_defaults(&self.vars, out);
+    }
+
+    /// Fills an area of `area_len` bytes with what a stored area of any length stands for, as one
+    /// does that was saved under another layout of the family. A variable that ends within the
+    /// stored area has its stored bytes, any other its default. A byte outside the variables is the
+    /// stored one, or 0 after the stored area's end.
+    pub fn convert(&self, stored: &[u8], out: &mut [u8])
+        requires { length out.old ≡ self.now.area_len }
+        ensures value { out.new ≡ convert_of self.now.area_len self.now.vars stored.now }
+        ensures same { length stored.now ≡ self.now.area_len → out.new ≡ stored.now }
+        ensures empty { stored.now ≡ []
+            → out.new ≡ defaults_of self.now.area_len self.now.vars }
+    {
+        convert_area(&self.vars, stored, out);
     }
 
     /// The tree whose blob is the record of an area of `area_len` bytes, where that is a blob: 4

@@ -4,6 +4,7 @@
 #![tactic(auto)]
 
 mod backend;
+mod convert;
 mod defaults;
 mod fields;
 mod format_kind;

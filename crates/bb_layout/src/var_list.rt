@@ -79,7 +79,8 @@ impl VarList {
         self.inner.get(place)
     }
 
-    pub(crate) fn as_slice(&self) -> &[Var]
+    /// The variables, to go through them.
+    pub fn as_slice(&self) -> &[Var]
         ensures { result.now ≡ self.now }
     {
         self.inner.as_slice()

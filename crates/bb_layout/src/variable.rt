@@ -189,10 +189,8 @@ fn dotted_name(alloc: Global, path: &TextList) -> Result<Text, NoMemory>
     ensures { IfOk result (λ name. name ≡ spec.dotted_name path.now) }
 {
     let mut name = String::new(alloc);
-    for i in 0..path.len() {
-        let Some(part) = path.get(i) else {
-            unreachable!()
-        };
+    let parts = path.as_slice();
+    for (i, part) in parts.iter().enumerate() {
         add_name(&mut name, i == 0, base_name(part.as_str()))?;
     }
     Text::of(alloc, name.as_str())

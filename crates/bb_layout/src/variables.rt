@@ -48,10 +48,7 @@ fn path_to(alloc: Global, above: &TextList, name: &str) -> Result<TextList, NoMe
     ensures { IfOk result (λ path. path ≡ above.now ++ name.now ∷ []) }
 {
     let mut path = TextList::none(alloc);
-    for i in 0..above.len() {
-        let Some(text) = above.get(i) else {
-            unreachable!()
-        };
+    for text in above.as_slice() {
         path.push(text.copy()?)?;
     }
     path.push(Text::of(alloc, name)?)?;

@@ -1,9 +1,10 @@
 -- What was read of a folder, and the menu that is made of it.
-use Rattle.std.proofs.Common.{◌≡◌, ℕ, zero, suc, ◌+◌, Bool, true, false, cond, if◌then◌else◌, IsTrue, List, [], ◌∷◌, ◌++◌, All, filter, get_or, length, map, take, Option, Some, None, Result, Ok, Err, IsOkAnd, Ordering, Less, Equal, Greater, refl, sym, ap, ap₂, subst, ◌∙◌, arith, slice_get}
+use Rattle.std.proofs.Common.{◌≡◌, ℕ, zero, suc, ◌+◌, ◌<◌, Bool, true, false, cond, if◌then◌else◌, IsTrue, List, [], ◌∷◌, ◌++◌, All, filter, get_or, length, map, take, Option, Some, None, Result, Ok, Err, IsOkAnd, Ordering, Less, Equal, Greater, refl, sym, ap, ap₂, subst, ◌∙◌, arith, slice_get}
 use Rattle.std.proofs.lemmas.List.{append-nil, map-append}
 use Rattle.std.proofs.lemmas.List.Elements.{All-append, All-cons, All-head, All-nil, All-tail, filter-append, filter_map-append, filter_passes}
 use Rattle.std.proofs.lemmas.List.Kept.{IsStrictlySortedBy-filter}
 use Rattle.std.proofs.lemmas.Map.Keys.{IsDistinct-IsPermutation, IsDistinct-from_sorted, apart_from_distinct}
+use Rattle.std.proofs.lemmas.Option.{slice_get_read}
 use Rattle.std.specs.Bool.{MatchBool}
 use Rattle.std.specs.Cmp.{IsTotalOrder, eq_by_cmp_equiv, on_total}
 use Rattle.std.specs.Cmp.Lexicographic.{nat_list_cmp_total}
@@ -65,6 +66,13 @@ filter_taken name names h = ap (λ b. cond b (name ∷ filter is_menu_name names
 filter_passed : (name : List ℕ) (names : List (List ℕ)) → is_menu_name name ≡ false →
     filter is_menu_name (name ∷ names) ≡ filter is_menu_name names
 filter_passed name names h = ap (λ b. cond b (name ∷ filter is_menu_name names) (filter is_menu_name names)) h
+
+-- the name at a place, as it is gone through
+pub name_there : (names items : List (List ℕ)) (i : ℕ) (item name : List ℕ) → items ≡ names → i < length items → item ≡ get_or items i item
+    → name ≡ item → slice_get names i ≡ Some name
+name_there names items i item name same inside is spelt =
+    ap (λ (l : List (List ℕ)). slice_get l i) (sym same) ∙ slice_get_read items (length items) i item refl inside is
+    ∙ ap (λ (n : List ℕ). Some n) (sym spelt)
 
 -- the names up to a place, that name, and those after it
 record IsSplit (names : List (List ℕ)) (place : ℕ) (name : List ℕ) : Type 0 where

@@ -106,10 +106,7 @@ fn read_items<F: Files>(
         ≡ counted (is_menu_fault result) (F.folder files.old).faults }
 {
     let mut menu = Menu::none(alloc);
-    for place in 0..names.len() {
-        let Some(name) = names.get(place) else {
-            unreachable!()
-        };
+    for name in names.as_slice() {
         if let Some(item) = read_named(alloc, dir, name.as_str(), files)? {
             menu.push(item)?;
         }

@@ -4,13 +4,20 @@ use Rattle.bb_base.specs.Folder.{FileMap, Folder}
 use Rattle.bb_base.specs.declared.files.FileFail.{FileFail}
 use Rattle.bb_base.specs.declared.files.FileFail.TheVariants as file_fails
 use Rattle.bb_flash.specs.declared.geometry.Geometry.{Geometry}
+use Rattle.bb_layout.specs.Layout.{Laid}
+use Rattle.bb_layout.specs.Results.{result_and_then}
+use Rattle.bb_layout.specs.Thirds.{raw_layout}
 use Rattle.bb_words.specs.Words.{words_of}
 use Rattle.bb_words.specs.declared.command.Command.{Command}
+use Rattle.bb_words.specs.declared.command.Command.TheVariants as commands
+use Rattle.bb_words.specs.declared.command.RawCommand.{RawCommand}
 use Rattle.bb_plan.specs.Plan.{IsRefusedWith}
 use Rattle.bb_plan.specs.Status.{is_planning}
-use Rattle.bb_plan.specs.Plan.{EarlyEnd, FileAnswers, OnCopies, Refused, SessionPlan, Task, command_reading, files_for, names_file, plan_by_words, plan_over_files, plan_reading, planned, words_reading}
-use Rattle.bb_plan.specs.FilesRead.{AreRead, after_file_fault, file_refusal, result_by, result_over}
+use Rattle.bb_plan.specs.Plan.{Compared, EarlyEnd, FileAnswers, OnCopies, Refused, SessionPlan, Task, command_reading, files_for, names_file, plan_by_words, plan_over_files, plan_reading, planned, raw_on, raw_task, words_reading}
+use Rattle.bb_plan.specs.PlanSteps.{refused_as}
+use Rattle.bb_plan.specs.FilesRead.{AreRead, after_file_fault, file_refusal, reading_of, reads_file, result_by, result_over}
 use Rattle.bb_plan.specs.Refusal.{status_of}
+use Rattle.bb_plan.specs.declared.plan.SlotImage.{SlotImage}
 use Rattle.bb_plan.specs.declared.refusal.Refusal.{Refusal}
 use Rattle.bb_plan.specs.declared.refusal.Refusal.TheVariants as refusals
 use Rattle.bb_plan.specs.declared.status.Status.{Status}
@@ -96,6 +103,31 @@ plan_held words geometry files = ap planned (by_over (plan_reading words geometr
 pub alone_plan : (words : List (List ℕ)) (geometry : Geometry) (answers : FileAnswers) (files : FileMap) →
     names_file words geometry ≡ false → plan_by_words words geometry answers ≡ plan_over_files words geometry files
 alone_plan words geometry answers files none = ap planned (one_end (plan_reading words geometry) none answers files)
+
+-- and no slot is compared with an image
+
+raw_uncompared : (command : RawCommand) (geometry : Geometry) (answers : FileAnswers) (place : SlotImage) →
+    planned (result_by (reading_of (raw_task command geometry)) answers) ≡ Err (Compared place) → ⊥
+raw_uncompared command geometry answers place = by (refused_as refusals.BadLayout (raw_layout command.magic command.area_len geometry))
+  where
+    by : (layout : Result Laid Refusal) → planned (result_by (reading_of (result_and_then (raw_on command) layout)) answers) ≡ Err (Compared place) → ⊥
+    by (Ok layout) is = cc
+    by (Err refusal) is = cc
+
+command_uncompared : (command : Command) (geometry : Geometry) (answers : FileAnswers) (place : SlotImage) →
+    reads_file (command_reading command geometry) ≡ false → planned (result_by (command_reading command geometry) answers) ≡ Err (Compared place) → ⊥
+command_uncompared (commands.Raw command) geometry answers place none is = raw_uncompared command geometry answers place is
+command_uncompared (commands.Drill numbers) geometry answers place none is = cc
+command_uncompared _ geometry answers place none is = let reads : true ≡ false = none in cc
+
+words_uncompared : (command : Result Command ℕ) (geometry : Geometry) (answers : FileAnswers) (place : SlotImage) →
+    reads_file (words_reading command geometry) ≡ false → planned (result_by (words_reading command geometry) answers) ≡ Err (Compared place) → ⊥
+words_uncompared (Ok command) geometry answers place none is = command_uncompared command geometry answers place none is
+words_uncompared (Err bad) geometry answers place none is = cc
+
+pub alone_uncompared : (words : List (List ℕ)) (geometry : Geometry) (answers : FileAnswers) (place : SlotImage) →
+    names_file words geometry ≡ false → plan_by_words words geometry answers ≡ Err (Compared place) → ⊥
+alone_uncompared words geometry answers place none is = words_uncompared (words_of words) geometry answers place none is
 
 -- ---- files that met a fault
 

@@ -1,21 +1,27 @@
--- The area of a plan's layout has one length: in its defaults, in what its copies pass, and in what
--- a boot is bound to; and no two variables to which a boot is bound share a byte of it.
+-- The area of a plan's layout has one length: in the table of an empty device, in what its copies
+-- pass, and in what a boot is bound to; and no two variables to which a boot is bound share a byte
+-- of it.
 use Rattle.std.proofs.Common.{◌≡◌, ◌&&◌, ℕ, ◌+◌, ◌≤◌, Bool, true, false, not, List, [], ◌∷◌, length, Option, Some, None, Result, Ok, Err, IfOk, All, cond, nat_lt, ok_or, refl, subst, arith}
-use Rattle.std.specs.Prelude.{⊤, map}
+use Rattle.std.specs.Prelude.{⊤, map, nat_le}
+use Rattle.std.specs.Str.{bytes_eq}
 use Rattle.std.proofs.lemmas.Bool.Decides.{nat_tests}
+use Rattle.sha2.specs.Sha256.{sha256}
 use Rattle.bb_actions.specs.Actions.{read_actions}
 use Rattle.bb_actions.specs.declared.bound_action.BoundAction.{BoundAction}
 use Rattle.bb_chooser.proofs.Named.{bind_apart}
 use Rattle.bb_chooser.proofs.Results.{if_ok, then_ok}
 use Rattle.bb_chooser.specs.Binding.{Binding, IsBinding, binding, bound_of, last_chosen_name, uint32_at}
+use Rattle.bb_chooser.specs.Choosing.{target_place}
 use Rattle.bb_chooser.specs.Settings.{Configuration, settings_of}
 use Rattle.bb_chooser.specs.declared.bound_target.BoundTarget.{BoundTarget}
 use Rattle.bb_dts.specs.Source.{source_of}
 use Rattle.bb_fdt.specs.Reading.{blob_of}
 use Rattle.bb_flash.specs.declared.geometry.Geometry.{Geometry}
 use Rattle.bb_flash.specs.declared.plan.Plan.{Plan as StartPlan}
+use Rattle.bb_flash.specs.declared.region.Region.{Region}
 use Rattle.bb_hmac.specs.Hmac.{key_block}
 use Rattle.bb_hmac.specs.Key.{key_of}
+use Rattle.bb_install.specs.declared.slot_error.SlotError.{SlotError}
 use Rattle.bb_layout.specs.Backend.{backend_of}
 use Rattle.bb_layout.specs.Formats.{takes_key}
 use Rattle.bb_layout.specs.Facts.{AreVars}
@@ -33,7 +39,7 @@ use Rattle.bb_layout.specs.declared.layout_error.LayoutError.{LayoutError}
 use Rattle.bb_layout.specs.declared.layout_error.LayoutError.TheVariants.{AreaTooLong, NameTwice, NoState, Overlap}
 use Rattle.bb_layout.specs.declared.var.Var.{Var}
 use Rattle.bb_layout.proofs.Apart.{share_no_byte}
-use Rattle.bb_layout.proofs.Outside.{defaults_length}
+use Rattle.bb_layout.proofs.Converting.{convert_length}
 use Rattle.bb_layout.proofs.RangeFacts.{ends_inside, names_apart, ranges_apart}
 use Rattle.bb_layout.proofs.WellFormed.{all_well_formed}
 use Rattle.bb_script.specs.Script.{script_of}
@@ -45,11 +51,14 @@ use Rattle.bb_words.specs.Words.{words_of}
 use Rattle.bb_words.specs.declared.command.Command.{Command}
 use Rattle.bb_words.specs.declared.command.Command.TheVariants as commands
 use Rattle.bb_words.specs.declared.command.Described.{Described}
+use Rattle.bb_words.specs.declared.command.InstallCommand.{InstallCommand}
 use Rattle.bb_words.specs.declared.command.RawAction.{RawAction}
 use Rattle.bb_words.specs.declared.command.RawAction.TheVariants as raw_actions
+use Rattle.bb_words.specs.declared.command.VerifyCommand.{VerifyCommand}
+use Rattle.bb_plan.specs.Installing.{LaidSlot, comparing, digested, fitting, image_reading, install_after, install_for, install_in_slot, install_of, install_on, install_reading, install_work_reading, installing, laid_slot_by, laid_slot_in, laid_slot_reading, slot_by, target_by, verify_after, verify_in_slot, verify_reading, with_slot}
 use Rattle.bb_plan.specs.Status.{is_planning}
 use Rattle.bb_plan.specs.PlanSteps.{actions_by, binding_by, binding_reading, blob_root, block_by, block_reading, bound_on, cause_of, entries_reading, is_blob, key_after, key_reading, keyed_reading, laid_by, layout_by, layout_reading, named_block, plans_reading, refused_as, script_by, script_reading, source_root, targets_by, tree_in, with_key}
-use Rattle.bb_plan.specs.Plan.{Act, Boot, FileAnswers, Good, OnCopies, Prints, Run, SessionPlan, Task, Work, boot_reading, command_reading, described_reading, first_area, on_copies, on_keyed, plan_by_words, plan_reading, planned, raw_on, raw_work, run_of, run_reading, words_reading, work_reading}
+use Rattle.bb_plan.specs.Plan.{Act, Boot, FileAnswers, Good, Install, OnCopies, Prints, Run, SessionPlan, Task, Work, boot_reading, command_reading, described_reading, first_area, on_copies, on_keyed, plan_by_words, plan_reading, planned, raw_on, raw_work, run_of, run_reading, words_reading, work_reading}
 use Rattle.bb_plan.specs.FilesRead.{EachEnd, Reading, Yields, and_then, result_by, reading_of}
 use Rattle.bb_plan.specs.Refusal.{status_of}
 use Rattle.bb_plan.specs.declared.refusal.Refusal.{Refusal}
@@ -131,7 +140,7 @@ laid_at tree name state geometry found e =
     let storage = step_of stored _ found region.next_is in
     let formed = all_well_formed state vars.value vars.step_is in
     let are = area_is vars.value area.value formed area.step_is in
-    let defaults = defaults_length area.value vars.value are.0 in
+    let defaults = convert_length area.value vars.value [] are.0 in
     subst (IsLaidOn geometry) (ok_is _ found storage.next_is)
     (record { defaults = defaults; vars = are.0; short = are.1 }, refl)
 
@@ -292,15 +301,19 @@ key_ends file format = by (takes_key format)
 abbrev HasSize : Keyed → Type 0
 HasSize keyed = IsSized keyed.layout
 
+key_after_ends : (key : Option (List ℕ)) (layout : Laid) → IsSized layout →
+    Ends HasSize (key_after key layout)
+key_after_ends key layout sized =
+    then_ends Any HasSize (with_key layout) (key_reading key layout.format)
+    (key_ends key layout.format) (λ block any. sized)
+
 keyed_ends : (described : Described) (geometry : Geometry) →
     Ends HasSize (keyed_reading described geometry)
 keyed_ends described geometry =
     then_ends IsSized HasSize (key_after described.key)
     (layout_reading described.file described.name geometry)
     (layout_ends described.file described.name geometry)
-    (λ layout sized.
-    then_ends Any HasSize (with_key layout) (key_reading described.key layout.format)
-    (key_ends described.key layout.format) (λ block any. sized))
+    (λ layout sized. key_after_ends described.key layout sized)
 
 binding_ends : (file : List ℕ) (layout : Laid) → IsSized layout →
     Ends (IsBoundSo layout) (binding_reading file layout)
@@ -327,6 +340,7 @@ IsSizedOn layout work = IsSizedWork work layout
 
 work_ends : (request : Request) (layout : Laid) → IsSized layout →
     Ends (IsSizedOn layout) (work_reading request layout)
+work_ends requests.History layout sized = tt
 work_ends (requests.Act actions) layout sized =
     both_end Any (IsSizedOn layout) (λ (bound : List BoundAction). Ok (Act bound))
     (actions_by layout.vars actions)
@@ -365,6 +379,101 @@ described_ends described geometry request =
     then_ends (IsSizedOn keyed.layout) IsSizedTask (on_copies keyed)
     (work_reading request keyed.layout) (work_ends request keyed.layout sized) (λ work is. is))
 
+-- ---- an install, and a comparison
+
+abbrev IsSizedSlot : LaidSlot → Type 0
+IsSizedSlot laid = IsSized laid.layout
+
+laid_slot_ends : (described : Described) (label : List ℕ) (geometry : Geometry) →
+    Ends IsSizedSlot (laid_slot_reading described label geometry)
+laid_slot_ends described label geometry =
+    file_ends IsSizedSlot (laid_slot_in described.name label geometry) described.file
+    (λ bytes.
+    both_end Any IsSizedSlot (laid_slot_by described.name label geometry) (tree_in bytes)
+    (tree_ends bytes)
+    (λ root any.
+    both_end IsSized IsSizedSlot (with_slot root label geometry)
+    (laid_by described.name geometry root)
+    (as_ends IsSized (layout_from root described.name geometry) refusals.BadLayout (λ e. refl)
+    (λ layout is. (laid_from root described.name geometry layout is).0))
+    (λ layout sized. sized)))
+
+slot_ends : (slot : Result Region SlotError) → Ends Any (reading_of (slot_by slot))
+slot_ends slot = as_ends Any slot refusals.BadSlot (λ e. refl) (λ s is. tt)
+
+image_ends : (file : List ℕ) (slot : Region) → Ends Any (image_reading file slot)
+image_ends file slot =
+    file_ends Any (fitting slot) file (λ image. by image (nat_le (length image) slot.size))
+  where
+    by : (image : List ℕ) (fits : Bool) →
+        Ends Any (reading_of (cond fits (Ok image) (Err (refusals.ImageTooLong (length image)))))
+    by image true = tt
+    by image false = refl
+
+digest_ends : (digest image : List ℕ) → Ends Any (reading_of (digested digest image))
+digest_ends digest image = by (bytes_eq (sha256 image) digest)
+  where
+    by : (same : Bool) →
+        Ends Any (reading_of (cond same (Ok image) (Err (refusals.BadDigest (sha256 image)))))
+    by true = tt
+    by false = refl
+
+target_ends : (name : List ℕ) (targets : Binding) → Ends Any (reading_of (target_by name targets))
+target_ends name targets = by (target_place targets name)
+  where
+    by : (found : Option ℕ) → Ends Any (reading_of (ok_or found (refusals.BadTarget name)))
+    by None = refl
+    by (Some target) = tt
+
+install_work_ends : (command : InstallCommand) (slot : Result Region SlotError) (layout : Laid) →
+    IsSized layout → Ends (IsSizedOn layout) (install_work_reading command slot layout)
+install_work_ends command slot layout sized =
+    then_ends (IsBoundSo layout) (IsSizedOn layout) (install_of command slot)
+    (binding_reading command.settings layout) (binding_ends command.settings layout sized)
+    (λ targets bound.
+    then_ends Any (IsSizedOn layout) (install_for command slot targets)
+    (reading_of (target_by command.target targets)) (target_ends command.target targets)
+    (λ target any.
+    then_ends Any (IsSizedOn layout) (install_in_slot command targets target)
+    (reading_of (slot_by slot)) (slot_ends slot)
+    (λ region any.
+    then_ends Any (IsSizedOn layout)
+    (λ (image : List ℕ).
+    reading_of (installing targets target region (digested command.digest image)))
+    (image_reading command.slot.image region) (image_ends command.slot.image region)
+    (λ image any.
+    both_end Any (IsSizedOn layout)
+    (λ (bytes : List ℕ). Ok (Install targets target (record { slot = region; image = bytes })))
+    (digested command.digest image) (digest_ends command.digest image) (λ bytes any. tt)))))
+
+install_ends : (command : InstallCommand) (geometry : Geometry) →
+    Ends IsSizedTask (install_reading command geometry)
+install_ends command geometry =
+    then_ends IsSizedSlot IsSizedTask (install_after command)
+    (laid_slot_reading command.described command.slot.label geometry)
+    (laid_slot_ends command.described command.slot.label geometry)
+    (λ laid sized.
+    then_ends HasSize IsSizedTask (install_on command laid.slot)
+    (key_after command.described.key laid.layout)
+    (key_after_ends command.described.key laid.layout sized)
+    (λ keyed here.
+    then_ends (IsSizedOn keyed.layout) IsSizedTask (on_copies keyed)
+    (install_work_reading command laid.slot keyed.layout)
+    (install_work_ends command laid.slot keyed.layout here) (λ work is. is)))
+
+verify_ends : (command : VerifyCommand) (geometry : Geometry) →
+    Ends IsSizedTask (verify_reading command geometry)
+verify_ends command geometry =
+    then_ends IsSizedSlot IsSizedTask (verify_after command)
+    (laid_slot_reading command.described command.slot.label geometry)
+    (laid_slot_ends command.described command.slot.label geometry)
+    (λ laid sized.
+    then_ends Any IsSizedTask (verify_in_slot command) (reading_of (slot_by laid.slot))
+    (slot_ends laid.slot)
+    (λ region any.
+    then_ends Any IsSizedTask (comparing region) (image_reading command.slot.image region)
+    (image_ends command.slot.image region) (λ image any. tt)))
+
 raw_sized : (action : RawAction) (layout : Laid) → IsSizedWork (raw_work action) layout
 raw_sized raw_actions.Look layout = tt
 raw_sized (raw_actions.Write area) layout = tt
@@ -392,6 +501,10 @@ command_ends (commands.Boot command) geometry =
 command_ends (commands.Shell command) geometry =
     described_ends command.boot.described geometry
     (requests.Run command.boot.settings command.script command.boot.cause)
+command_ends (commands.Install command) geometry = install_ends command geometry
+command_ends (commands.Verify command) geometry = verify_ends command geometry
+command_ends (commands.History command) geometry =
+    described_ends command.described geometry requests.History
 command_ends (commands.Menu command) geometry = λ found. menu_ends command.dir found
 command_ends (commands.Drill numbers) geometry = tt
 

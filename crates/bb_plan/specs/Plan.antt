@@ -1,12 +1,14 @@
 -- What a session is to do on the device, or why it is refused before: one reading for each command,
 -- by its words and the device's geometry.
-use Rattle.std.specs.Prelude.{◌≡◌, ℕ, Bool, length, List, ⊤, None, Result, Ok, Err}
+use Rattle.std.specs.Prelude.{◌≡◌, ℕ, ◌<◌, ◌≤◌, Bool, length, List, [], ⊤, None, Result, Ok, Err}
 use Rattle.bb_actions.specs.Actions.{AreBoundTo}
 use Rattle.bb_actions.specs.declared.bound_action.BoundAction.{BoundAction}
 use Rattle.bb_base.specs.Folder.{FileMap}
 use Rattle.bb_chooser.specs.Binding.{Binding, IsBoundTo}
 use Rattle.bb_flash.specs.declared.geometry.Geometry.{Geometry}
-use Rattle.bb_layout.specs.Defaults.{defaults_of}
+use Rattle.bb_install.specs.Beside.{IsBeside}
+use Rattle.bb_install.specs.Slot.{HasPlace}
+use Rattle.bb_layout.specs.Convert.{convert}
 use Rattle.bb_layout.specs.Layout.{Laid, fields_of}
 use Rattle.bb_layout.specs.Results.{result_and_then}
 use Rattle.bb_layout.specs.Thirds.{raw_layout}
@@ -23,36 +25,27 @@ use Rattle.bb_words.specs.declared.command.RawAction.{RawAction}
 use Rattle.bb_words.specs.declared.command.RawAction.TheVariants as raw_actions
 use Rattle.bb_words.specs.declared.command.RawCommand.{RawCommand}
 use Rattle.bb_plan.specs.PlanSteps.{actions_by, binding_reading, cause_of, keyed_reading, plans_reading, refused_as, script_reading}
+use Rattle.bb_plan.specs.Installing.{install_reading, verify_reading}
 use Rattle.bb_plan.specs.FilesRead.{Fails, FileAnswer, Reading, Yields, and_then, answers_over, menu_reading, result_by, result_over, reading_of, reads_file}
 use Rattle.bb_plan.specs.declared.described.KeyedLayout.{KeyedLayout}
 use Rattle.bb_plan.specs.declared.plan.PlannedTask.{PlannedTask}
 use Rattle.bb_plan.specs.declared.plan.PlannedTask.TheVariants as tasks
 use Rattle.bb_plan.specs.declared.plan.PlannedWork.{PlannedWork}
+use Rattle.bb_plan.specs.declared.plan.SlotImage.{SlotImage}
 use Rattle.bb_plan.specs.declared.refusal.Refusal.{Refusal}
 use Rattle.bb_plan.specs.declared.refusal.Refusal.TheVariants as refusals
 use Rattle.bb_plan.specs.declared.request.Request.{Request}
 use Rattle.bb_plan.specs.declared.request.Request.TheVariants as requests
 use Rattle.bb_plan.specs.declared.status.Status.{Status}
 use Rattle.bb_plan.specs.Refusal.{status_of}
-pub use Rattle.bb_plan.specs.declared.plan.Work.{Work}
-pub use Rattle.bb_plan.specs.declared.plan.Work.TheVariants.{Act, Boot, Good, Run, Show, Write}
+pub use Rattle.bb_plan.specs.Tasks.{Act, Boot, Compares, Drills, Good, History, Install, OnCopies, Prints, Run, SessionPlan, Show, Task, Work, Write, on_copies}
 
--- the layout with the block of its key, if its records stand under one, and the work
-pub record SessionPlan : Type 0 where
-  pub keyed : Keyed
-  pub work : Work
-
--- what words and files ask for: a work on the copies of a layout, or a text that is sent or a drill
--- that is run, for which no call of the device is made
-pub data Task : Type 0 where
-  OnCopies : SessionPlan → Task
-  Prints : List ℕ → Task
-  Drills : DrillNumbers → Task
-
--- how a session ends before the device: it sends a text, it runs a drill, or it is refused
+-- how a session ends without a work on copies: it sends a text, it runs a drill, it compares a slot
+-- with an image, or it is refused
 pub data EarlyEnd : Type 0 where
   Printed : List ℕ → EarlyEnd
   Drilled : DrillNumbers → EarlyEnd
+  Compared : SlotImage → EarlyEnd
   Refused : Refusal → EarlyEnd
 
 -- ---- `raw`: no file is read
@@ -95,6 +88,7 @@ run_reading file cause targets = and_then (run_of cause targets) (script_reading
 
 -- the work that is asked for, by the layout
 abbrev pub work_reading : Request → Laid → Reading Work
+work_reading requests.History layout = Yields History
 work_reading (requests.Act actions) layout = reading_of (acting (actions_by layout.vars actions))
 work_reading (requests.Good settings) layout =
     and_then (λ targets. Yields (Good targets)) (binding_reading settings layout)
@@ -104,8 +98,6 @@ work_reading (requests.Run settings file cause) layout =
     and_then (run_reading file cause) (binding_reading settings layout)
 
 -- the layout and its key, and then the work on its copies
-abbrev pub on_copies : Keyed → Work → Reading Task
-on_copies keyed work = Yields (OnCopies (record { keyed = keyed; work = work }))
 
 abbrev pub on_keyed : Request → Keyed → Reading Task
 on_keyed request keyed = and_then (on_copies keyed) (work_reading request keyed.layout)
@@ -127,6 +119,10 @@ command_reading (commands.Boot command) geometry =
 command_reading (commands.Shell command) geometry =
     described_reading command.boot.described geometry
     (requests.Run command.boot.settings command.script command.boot.cause)
+command_reading (commands.Install command) geometry = install_reading command geometry
+command_reading (commands.Verify command) geometry = verify_reading command geometry
+command_reading (commands.History command) geometry =
+    described_reading command.described geometry requests.History
 command_reading (commands.Menu command) geometry =
     and_then (λ text. Yields (Prints text)) (menu_reading command.dir)
 command_reading (commands.Drill numbers) geometry = Yields (Drills numbers)
@@ -145,11 +141,12 @@ plan_reading words geometry = words_reading (words_of words) geometry
 abbrev pub FileAnswers : Type 0
 FileAnswers = List FileAnswer
 
--- a plan for the device, or the end of the session before it
+-- a plan for the copies, or the end of the session without one
 abbrev pub planned : Result Task Refusal → Result SessionPlan EarlyEnd
 planned (Ok (OnCopies plan)) = Ok plan
 planned (Ok (Prints text)) = Err (Printed text)
 planned (Ok (Drills numbers)) = Err (Drilled numbers)
+planned (Ok (Compares place)) = Err (Compared place)
 planned (Err refusal) = Err (Refused refusal)
 
 abbrev pub plan_by_words : List (List ℕ) → Geometry → FileAnswers → Result SessionPlan EarlyEnd
@@ -177,11 +174,12 @@ abbrev pub IsRefusedWith : Status → Result SessionPlan EarlyEnd → Type 0
 IsRefusedWith answer (Ok plan) = ⊥
 IsRefusedWith answer (Err (Printed text)) = ⊥
 IsRefusedWith answer (Err (Drilled numbers)) = ⊥
+IsRefusedWith answer (Err (Compared place)) = ⊥
 IsRefusedWith answer (Err (Refused refusal)) = status_of refusal ≡ answer
 
--- the area that an empty device stands for
+-- the table of a device on which nothing is stored: what the layout reads of the empty area
 abbrev pub first_area : Laid → List ℕ
-first_area layout = defaults_of layout.area_len layout.vars
+first_area layout = convert layout []
 
 -- ---- a plan as the code has it
 
@@ -196,6 +194,7 @@ abbrev pub task_as : PlannedTask → Task
 task_as (tasks.OnCopies plan) = OnCopies (plan_as plan)
 task_as (tasks.Prints text) = Prints text
 task_as (tasks.Drills numbers) = Drills numbers
+task_as (tasks.Compares place) = Compares place
 
 -- records in the raw format stand under no key
 pub record IsUnkeyedRaw (keyed : Keyed) : Type 0 where
@@ -207,15 +206,32 @@ pub record IsBoundAt (layout : Laid) (targets : Binding) : Type 0 where
   pub sized : targets.area_len ≡ layout.area_len
   pub bound : IsBoundTo layout.vars targets
 
+-- a slot beside the copies of a layout has room for its image
+pub record FitsBeside (layout : Laid) (place : SlotImage) : Type 0 where
+  pub beside : IsBeside layout place.slot
+  pub fits : length place.image ≤ place.slot.size
+
+-- an install: its target is among those that are bound to the variables of a layout, and its slot
+-- stands beside the copies
+pub record IsInstallable (layout : Laid) (targets : Binding) (target : ℕ) (place : SlotImage)
+    : Type 0 where
+  pub bound : IsBoundAt layout targets
+  pub there : target < length targets.targets
+  pub fits : FitsBeside layout place
+
 -- a layout serves a work: a look and a save of an area are of raw records, a save is of an area of
--- the layout's length, and actions and targets are bound to its variables
+-- the layout's length, and actions and targets are bound to its variables. Every layout serves a
+-- history
 abbrev pub IsServed : Keyed → Work → Type 0
 IsServed keyed Show = IsUnkeyedRaw keyed
+IsServed keyed History = ⊤
 IsServed keyed (Write area) = IsUnkeyedRaw keyed × (length area ≡ keyed.layout.area_len)
 IsServed keyed (Act actions) = AreBoundTo keyed.layout.vars actions
 IsServed keyed (Good targets) = IsBoundAt keyed.layout targets
 IsServed keyed (Boot targets cause plans) = IsBoundAt keyed.layout targets
 IsServed keyed (Run script targets cause plans) = IsBoundAt keyed.layout targets
+IsServed keyed (Install targets target place) =
+    IsInstallable keyed.layout targets target place
 
 -- a layout for a device of this geometry, with a key exactly where its records stand under one
 pub record IsLaidFor (geometry : Geometry) (keyed : Keyed) : Type 0 where
@@ -227,7 +243,13 @@ pub record IsPlannedFor (geometry : Geometry) (plan : SessionPlan) : Type 0 wher
   pub laid : IsLaidFor geometry plan.keyed
   pub served : IsServed plan.keyed plan.work
 
+-- a slot on such a device has room for its image
+pub record FitsOn (geometry : Geometry) (place : SlotImage) : Type 0 where
+  pub stands : HasPlace geometry place.slot
+  pub fits : length place.image ≤ place.slot.size
+
 abbrev pub IsTaskFor : Geometry → Task → Type 0
 IsTaskFor geometry (OnCopies plan) = IsPlannedFor geometry plan
 IsTaskFor geometry (Prints text) = ⊤
 IsTaskFor geometry (Drills numbers) = ⊤
+IsTaskFor geometry (Compares place) = FitsOn geometry place

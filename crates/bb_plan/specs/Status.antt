@@ -1,7 +1,7 @@
 -- The ways in which a session ends: one table, in the order in which a session comes to them.
 use Rattle.std.specs.Prelude.{ℕ, Bool, true, false, List, codes}
 use Rattle.bb_plan.specs.declared.status.Status.{Status}
-use Rattle.bb_plan.specs.declared.status.Status.TheVariants.{Done, BadWords, BadTree, BadLayout, BadVariable, FileMissing, FileFault, FileTooLong, ReadFault, WriteFault, NoTarget, StartFailed, BadSettings, BadScript, SinkFault, ScriptFailed, StepLimit, NoGood, BadKey, NoMemory}
+use Rattle.bb_plan.specs.declared.status.Status.TheVariants.{Done, BadWords, BadTree, BadLayout, BadVariable, FileMissing, FileFault, FileTooLong, ReadFault, WriteFault, NoTarget, StartFailed, BadSettings, BadScript, SinkFault, ScriptFailed, StepLimit, NoGood, BadKey, BadTarget, BadSlot, BadDigest, ImageTooLong, LastTarget, SlotFault, NoMemory}
 
 pub record StatusRow : Type 0 where
   -- the exit status of the program
@@ -22,7 +22,7 @@ late code name takes = record { code = code; name = name; is_early = false; take
 abbrev pub status_row : Status → StatusRow
 -- of the words
 status_row BadWords = early 1 (codes "BadWords")
--- of the files: devicetree, key, settings, script and entries
+-- of the files: devicetree, key, settings, script, entries, slot and image
 status_row FileMissing = early 5 (codes "FileMissing")
 status_row FileFault = early 6 (codes "FileFault")
 status_row FileTooLong = early 7 (codes "FileTooLong")
@@ -32,12 +32,19 @@ status_row BadKey = early 17 (codes "BadKey")
 status_row BadVariable = early 4 (codes "BadVariable")
 status_row BadSettings = early 13 (codes "BadSettings")
 status_row BadScript = early 12 (codes "BadScript")
+status_row BadTarget = early 22 (codes "BadTarget")
+status_row BadSlot = early 23 (codes "BadSlot")
+status_row ImageTooLong = early 25 (codes "ImageTooLong")
+status_row BadDigest = early 24 (codes "BadDigest")
 -- of the device
 status_row ReadFault = late 8 (codes "ReadFault") false
 status_row WriteFault = late 9 (codes "WriteFault") false
 -- of the table that was loaded
 status_row NoTarget = late 10 (codes "NoTarget") false
 status_row NoGood = late 18 (codes "NoGood") false
+status_row LastTarget = late 26 (codes "LastTarget") true
+-- of a slot
+status_row SlotFault = late 27 (codes "SlotFault") false
 -- of a start
 status_row StartFailed = late 11 (codes "StartFailed") true
 -- of a script

@@ -3,7 +3,8 @@ ghost use Rattle.std.specs.Option.{option_copied};
 ghost use Rattle.bb_flash.specs.Geometry.{IsGeometry};
 ghost use Rattle.bb_layout.specs.Layout.{fields_of};
 ghost use Rattle.bb_tree.specs.NodeViews.{branch_of};
-ghost use Rattle.bb_plan.specs.PlanSteps.{blob_root, keyed_reading, layout_by, layout_reading};
+ghost use Rattle.bb_plan.specs.PlanSteps.{blob_root, key_after, keyed_reading, layout_by};
+ghost use Rattle.bb_plan.specs.PlanSteps.{layout_reading};
 ghost use Rattle.bb_plan.specs.PlanSteps.{source_root, tree_in};
 ghost use Rattle.bb_plan.specs.Plan.{IsLaidFor, keyed_as};
 ghost use Rattle.bb_plan.specs.FilesRead.{IsExpected, IsReadAs};
@@ -46,6 +47,22 @@ pub(crate) fn read_keyed<N: Files>(
     let name = described.name.as_ref();
     let layout = read_layout(alloc, files, &described.file, name, geometry)?;
     let key_file = described.key.as_ref();
+    with_key(alloc, files, key_file, layout)
+}
+
+/// A layout, with the key of its records, where they stand under one.
+pub(crate) fn with_key<N: Files>(
+    alloc: Global,
+    files: &mut N,
+    key_file: Option<&Text>,
+    layout: Layout,
+) -> Result<KeyedLayout, Refusal>
+    ensures read { IsReadAs (key_after (option_copied key_file.entry) (fields_of layout)) keyed_as
+        (N.folder files.old) (N.folder files.new) result }
+    ensures laid { IfOk result (λ keyed. IsLaidFor layout.geometry (keyed_as keyed)) }
+    ensures same { IfOk result (λ keyed. keyed.layout ≡ layout) }
+    ensures tellable { IfErr result IsSendableRefusal }
+{
     let key = read_key(alloc, files, key_file, layout.format)?;
     Ok(KeyedLayout { layout, key })
 }
@@ -87,8 +104,8 @@ fn described_layout(
     Ok(layout_of(alloc, &tree, text_of(name), geometry)?)
 }
 
-// The tree that bytes hold: as a blob where they begin as one, else as a source.
-fn read_tree(alloc: Global, bytes: &[u8]) -> Result<Tree, Refusal>
+/// The tree that bytes hold: as a blob where they begin as one, else as a source.
+pub(crate) fn read_tree(alloc: Global, bytes: &[u8]) -> Result<Tree, Refusal>
     requires { length bytes.now ≤ 4294967295 }
     ensures read { IsExpected (tree_in bytes.now) (λ tree. branch_of tree.root) result }
     ensures tellable { IfErr result IsSendableRefusal }
@@ -114,7 +131,8 @@ fn read_source_tree(alloc: Global, source: &[u8]) -> Result<Tree, Refusal>
     Ok(read_source(alloc, source)?)
 }
 
-fn text_of(name: Option<&Text>) -> Option<&str>
+/// The text of a name, where there is one.
+pub(crate) fn text_of(name: Option<&Text>) -> Option<&str>
     ensures { option_copied result ≡ option_copied name.entry }
 {
     match name {

@@ -6,6 +6,8 @@
 mod described;
 mod entries;
 mod file;
+mod image;
+mod install;
 mod key;
 mod menu;
 mod plan;
@@ -13,11 +15,12 @@ mod planning;
 mod refusal;
 mod request;
 mod script;
+mod slot;
 mod status;
 mod targets;
 
 pub use described::KeyedLayout;
-pub use plan::{PlannedTask, PlannedWork, Work};
+pub use plan::{PlannedTask, PlannedWork, SlotImage, Work};
 pub use planning::plan_session;
 pub use refusal::Refusal;
 pub use request::Request;

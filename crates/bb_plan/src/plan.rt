@@ -2,7 +2,7 @@ use crate::described::KeyedLayout;
 use bb_actions::BoundActionList;
 use bb_base::Bytes;
 use bb_chooser::{Cause, Chooser};
-use bb_flash::PlanList;
+use bb_flash::{PlanList, Region};
 use bb_script::SpeltScript;
 use bb_words::DrillNumbers;
 
@@ -11,6 +11,8 @@ use bb_words::DrillNumbers;
 pub enum Work {
     /// To look at them, and to send the area of the first that passes in hexadecimal.
     Show,
+    /// To read what their regions still hold, and to send the areas that pass, oldest first.
+    History,
     /// To load them, and to save this area.
     Write(Bytes),
     /// To load them, to put the values among these actions, to save the table that this makes where
@@ -25,6 +27,17 @@ pub enum Work {
     /// To load them, and to run this script, which boots by these targets, this cause and these
     /// plans.
     Run(SpeltScript, Chooser, Cause, PlanList),
+    /// To load them, to disable the target of this place, to save the table that this makes where
+    /// it is another, to write the image to its slot, to enable the target, to save that table, and
+    /// to send the target and the image's length.
+    Install(Chooser, usize, SlotImage),
+}
+
+/// A slot of a device, and the image that belongs there, which is no longer than the slot.
+#[derive(Drop)]
+pub struct SlotImage {
+    pub slot: Region,
+    pub image: Bytes,
 }
 
 /// What a session is to do.
@@ -36,6 +49,8 @@ pub enum PlannedTask {
     Prints(Bytes),
     /// To run a drill, without a call of the device, and to send what it counted.
     Drills(DrillNumbers),
+    /// To say whether a slot holds its image. The copies aren't looked at.
+    Compares(SlotImage),
 }
 
 /// A work, and the layout of the copies on which it is done.

@@ -7,6 +7,7 @@ ghost use Rattle.bb_plan.specs.FilesRead.{IsExpected, IsReadAs};
 ghost use Rattle.bb_plan.specs.Refusal.{IsSendableRefusal};
 
 use crate::described::{KeyedLayout, read_keyed};
+use crate::install::{plan_install, plan_verify};
 use crate::menu::read_menu;
 use crate::plan::{PlannedTask, PlannedWork, Work};
 use crate::refusal::Refusal;
@@ -66,6 +67,11 @@ fn plan_command<N: Files>(
             let boot = command.boot;
             let request = Request::Run(boot.settings, command.script, boot.cause);
             plan_described(alloc, &boot.described, request, files, geometry)
+        }
+        Command::Install(command) => plan_install(alloc, command, files, geometry),
+        Command::Verify(command) => plan_verify(alloc, command, files, geometry),
+        Command::History(command) => {
+            plan_described(alloc, &command.described, Request::History, files, geometry)
         }
         Command::Menu(command) => {
             let text = read_menu(alloc, files, &command.dir)?;

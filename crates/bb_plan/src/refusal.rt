@@ -2,11 +2,12 @@ ghost use Rattle.std.specs.Prelude.{◌≡◌};
 
 use crate::Status;
 use bb_actions::ActionError;
-use bb_base::{NoMemory, Text};
+use bb_base::{Bytes, NoMemory, Text};
 use bb_chooser::SettingsError;
 use bb_dts::DtsError;
 use bb_fdt::FdtError;
 use bb_hmac::KeyError;
+use bb_install::SlotError;
 use bb_layout::LayoutError;
 use bb_script::ScriptError;
 use bb_state::{CopyFault, StateError};
@@ -43,6 +44,18 @@ pub enum Refusal {
     ScriptFailed(u32),
     /// The script has more than 10,000 commands and rounds.
     StepLimit,
+    /// No target has this name.
+    BadTarget(Text),
+    /// No slot of the device has the label.
+    BadSlot(SlotError),
+    /// The image has so many bytes, more than the slot.
+    ImageTooLong(u32),
+    /// SHA-256 of the image is this one, of 32 bytes.
+    BadDigest(Bytes),
+    /// No target but the one of this name has a priority and attempts left.
+    LastTarget(Text),
+    /// A call on the slot failed, which began at this place of the device.
+    SlotFault(u32),
     /// The state's records stand under a key, and no word names its file.
     NoKey,
     /// What the key's file holds is none. Nothing of it is told.
@@ -222,6 +235,12 @@ impl Refusal {
             Refusal::BadScript(_) => Status::BadScript,
             Refusal::ScriptFailed(_) => Status::ScriptFailed,
             Refusal::StepLimit => Status::StepLimit,
+            Refusal::BadTarget(_) => Status::BadTarget,
+            Refusal::BadSlot(_) => Status::BadSlot,
+            Refusal::ImageTooLong(_) => Status::ImageTooLong,
+            Refusal::BadDigest(_) => Status::BadDigest,
+            Refusal::LastTarget(_) => Status::LastTarget,
+            Refusal::SlotFault(_) => Status::SlotFault,
             Refusal::NoKey | Refusal::BadKey(_) => Status::BadKey,
             Refusal::NoGood(_) => Status::NoGood,
             Refusal::NoMemory => Status::NoMemory,

@@ -20,6 +20,8 @@ use std::alloc::Global;
 /// What is asked of a state that a file describes.
 #[derive(Drop)]
 pub enum Request {
+    /// To send what the copies' regions still hold.
+    History,
     /// To do these actions.
     Act(ActionList),
     /// To give the target that was chosen last its default attempts, by the settings in this file.
@@ -45,6 +47,7 @@ pub(crate) fn read_work<N: Files>(
     ensures tellable { IfErr result IsSendableRefusal }
 {
     match request {
+        Request::History => Ok(Work::History),
         Request::Act(actions) => {
             let bound = read_actions(alloc, &keyed.layout, &actions)?;
             Ok(Work::Act(bound))

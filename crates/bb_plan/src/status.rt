@@ -37,6 +37,18 @@ pub enum Status {
     ScriptFailed,
     /// The script has more than 10,000 commands and rounds.
     StepLimit,
+    /// No target has the name that a word gives.
+    BadTarget,
+    /// No slot of the device has the label that a word gives.
+    BadSlot,
+    /// The image is another than the one whose digest a word gives.
+    BadDigest,
+    /// The image is longer than the slot.
+    ImageTooLong,
+    /// No other target has a priority and attempts left.
+    LastTarget,
+    /// A slot couldn't be written.
+    SlotFault,
     /// The state's records stand under a key, and none is given, or its file holds none.
     BadKey,
     /// No target was chosen last that could be marked good.
@@ -77,10 +89,16 @@ impl Status {
             Status::BadVariable => (4, "BadVariable"),
             Status::BadSettings => (13, "BadSettings"),
             Status::BadScript => (12, "BadScript"),
+            Status::BadTarget => (22, "BadTarget"),
+            Status::BadSlot => (23, "BadSlot"),
+            Status::ImageTooLong => (25, "ImageTooLong"),
+            Status::BadDigest => (24, "BadDigest"),
             Status::ReadFault => (8, "ReadFault"),
             Status::WriteFault => (9, "WriteFault"),
             Status::NoTarget => (10, "NoTarget"),
             Status::NoGood => (18, "NoGood"),
+            Status::LastTarget => (26, "LastTarget"),
+            Status::SlotFault => (27, "SlotFault"),
             Status::StartFailed => (11, "StartFailed"),
             Status::ScriptFailed => (15, "ScriptFailed"),
             Status::StepLimit => (16, "StepLimit"),

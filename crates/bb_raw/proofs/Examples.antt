@@ -3,10 +3,10 @@ use Rattle.std.proofs.Common.{◌≡◌, ℕ, List, [], ◌∷◌, ◌++◌, dro
 use Rattle.bb_base.specs.Crc.{after_bit, after_eight_bits, after_byte}
 use Rattle.sha2.specs.Sha256.{compress, digest_bytes, first_words, hash_after, rounds, schedule, sha256}
 use Rattle.bb_hmac.specs.Hmac.{key_block}
-use Rattle.bb_raw.specs.Raw.{RawKind, raw_passes, raw_text}
+use Rattle.bb_raw.specs.Raw.{RawKind, longest_in, passes_within, raw_passes, raw_text, record_limit}
 
 plain : RawKind
-plain = record { magic = 0x12345678; area_len = 9; key = None }
+plain = record { magic = 0x12345678; key = None }
 
 -- magic 0x12345678, nothing reserved, 9 bytes, the CRC of the area 0xcbf43926, that of the header
 -- 0xdf3c2e03
@@ -33,10 +33,35 @@ another_byte_passes_nothing : raw_passes plain (header ++ codes "023456789") ≡
 unfolding after_byte after_eight_bits after_bit plain header
 another_byte_passes_nothing = refl
 
+-- an area of 4 bytes: its CRC is 0x9be3e0a3, that of the header 0x5595a009
+header_of_four : List ℕ
+header_of_four = 0x78 ∷ 0x56 ∷ 0x34 ∷ 0x12 ∷ 0 ∷ 0 ∷ 4 ∷ 0 ∷ 0xa3 ∷ 0xe0 ∷ 0xe3 ∷ 0x9b ∷ 0x09 ∷ 0xa0 ∷ 0x95 ∷ 0x55 ∷ []
+
+a_shorter_area_passes : raw_passes plain (header_of_four ++ codes "123456789") ≡ Some (codes "1234")
+unfolding after_byte after_eight_bits after_bit plain header_of_four
+a_shorter_area_passes = refl
+
+-- an area of no bytes: its CRC is 0, that of the header 0x2ab66eb7
+header_of_none : List ℕ
+header_of_none = 0x78 ∷ 0x56 ∷ 0x34 ∷ 0x12 ∷ 0 ∷ 0 ∷ 0 ∷ 0 ∷ 0 ∷ 0 ∷ 0 ∷ 0 ∷ 0xb7 ∷ 0x6e ∷ 0xb6 ∷ 0x2a ∷ []
+
+the_empty_area_passes : raw_passes plain header_of_none ≡ Some []
+unfolding after_byte after_eight_bits after_bit plain header_of_none
+the_empty_area_passes = refl
+
+-- each check holds, but of another length: the area's CRC is that of the first 4 of its 9 bytes,
+-- and the header's, 0xe90bb3d7, is right
+header_of_another : List ℕ
+header_of_another = 0x78 ∷ 0x56 ∷ 0x34 ∷ 0x12 ∷ 0 ∷ 0 ∷ 9 ∷ 0 ∷ 0xa3 ∷ 0xe0 ∷ 0xe3 ∷ 0x9b ∷ 0xd7 ∷ 0xb3 ∷ 0x0b ∷ 0xe9 ∷ []
+
+under_another_length_it_passes_nothing : raw_passes plain (header_of_another ++ codes "123456789") ≡ None
+unfolding after_byte after_eight_bits after_bit plain header_of_another
+under_another_length_it_passes_nothing = refl
+
 -- ---- under the key `Jefe`
 
 keyed : RawKind
-keyed = record { magic = 0x12345678; area_len = 9; key = Some (key_block (codes "Jefe")) }
+keyed = record { magic = 0x12345678; key = Some (key_block (codes "Jefe")) }
 
 -- what OpenSSL gives of the worked record without a key
 code : List ℕ
@@ -57,3 +82,29 @@ without_its_code_it_passes_nothing = refl
 another_code_passes_nothing : raw_passes keyed (header ++ codes "123456789" ++ drop 1 code ++ codes "m") ≡ None
 unfolding after_byte after_eight_bits after_bit first_words schedule rounds compress hash_after digest_bytes sha256 keyed header code
 another_code_passes_nothing = refl
+
+-- ---- where records stand in so many bytes
+
+it_passes_in_a_room_of_its_length : passes_within (record { kind = plain; room = 25 }) (header ++ codes "123456789") ≡ Some (codes "123456789")
+unfolding after_byte after_eight_bits after_bit plain header
+it_passes_in_a_room_of_its_length = refl
+
+in_a_byte_less_nothing_passes : passes_within (record { kind = plain; room = 24 }) (header ++ codes "123456789") ≡ None
+unfolding after_byte after_eight_bits after_bit plain header
+in_a_byte_less_nothing_passes = refl
+
+a_room_of_56_leaves_40 : longest_in (record { kind = plain; room = 56 }) ≡ 40
+unfolding plain
+a_room_of_56_leaves_40 = refl
+
+under_a_key_it_leaves_8 : longest_in (record { kind = keyed; room = 56 }) ≡ 8
+unfolding keyed
+under_a_key_it_leaves_8 = refl
+
+a_room_of_15_leaves_none : longest_in (record { kind = plain; room = 15 }) ≡ 0
+unfolding plain
+a_room_of_15_leaves_none = refl
+
+the_largest_leaves_the_longest : longest_in (record { kind = keyed; room = record_limit }) ≡ 65535
+unfolding keyed
+the_largest_leaves_the_longest = refl

@@ -1,9 +1,10 @@
 -- A raw record that comes in pieces: its parts are filled from the front on.
-use Rattle.std.specs.Prelude.{◌≡◌, ℕ, zero, suc, Bool, ◌&&◌, List, [], ◌∷◌, ◌++◌, length, take, min}
+use Rattle.std.specs.Prelude.{◌≡◌, ℕ, zero, suc, Bool, false, ◌&&◌, List, [], ◌∷◌, ◌++◌, length, take, drop, min, nat_le, Option, Some, None, if◌then◌else◌}
 use Rattle.std.specs.Str.{bytes_eq}
 use Rattle.bb_base.specs.Crc.{crc_of}
+use Rattle.bb_base.specs.declared.format.Passed.{Passed}
 use Rattle.bb_raw.specs.declared.feed.RawFeed.{RawFeed}
-use Rattle.bb_raw.specs.Raw.{RawKind, code_len, has_field, header_agrees, hmac_text}
+use Rattle.bb_raw.specs.Raw.{RawKind, RawRecords, code_len, data_len, has_field, header_agrees, hmac_text, raw_length}
 
 -- bytes that are laid over others from a place on, as far as these reach
 unfoldable pub laid_over : ℕ → List ℕ → List ℕ → List ℕ
@@ -22,11 +23,32 @@ pub record KeepsFed (kept : List ℕ) (count : ℕ) (fed : List ℕ) : Type 0 wh
   pub counted : count ≡ min (length fed) (length kept)
   pub same : take count kept ≡ take count fed
 
-abbrev pub raw_holds : RawKind → RawFeed → List ℕ → List ℕ → Type 0
-raw_holds kind feed fed area = KeepsFed (kept_bytes kind feed area) feed.count fed
+abbrev pub raw_holds : RawRecords → RawFeed → List ℕ → List ℕ → Type 0
+raw_holds raw feed fed area = KeepsFed (kept_bytes raw.kind feed area) feed.count fed
 
 -- the checks of a record with these parts hold
 abbrev pub parts_agree : RawKind → List ℕ → List ℕ → List ℕ → Bool
 parts_agree kind header area code =
-    header_agrees kind.magic kind.area_len header && has_field 4 8 (crc_of area) header
+    header_agrees kind.magic header && has_field 4 8 (crc_of area) header
     && bytes_eq (hmac_text kind.key (header ++ area)) code
+
+-- the code of a record whose area has this length: it begins in the memory for the longest area,
+-- and goes on in that for the code
+abbrev pub code_after : RawKind → RawFeed → List ℕ → ℕ → List ℕ
+code_after kind feed area len =
+    take (code_len kind.key) (drop len (area ++ take (code_len kind.key) feed.code))
+
+-- a whole record of an area of this length came, and its checks hold
+abbrev pub has_come : RawKind → RawFeed → List ℕ → ℕ → Bool
+has_come kind feed area len =
+    nat_le (raw_length kind len) feed.count
+    && parts_agree kind feed.header (take len area) (code_after kind feed area len)
+
+-- the same of the length that its header says, where the memory for the area has as many bytes
+abbrev pub fed_passes : RawKind → RawFeed → List ℕ → Bool
+fed_passes kind feed area =
+    nat_le (data_len feed.header) (length area) && has_come kind feed area (data_len feed.header)
+
+-- what a check answers of an area of this length, where it passes
+abbrev pub passed_answer : ℕ → Bool → Option Passed
+passed_answer len passes = if passes then Some (record { len = len; old = false }) else None

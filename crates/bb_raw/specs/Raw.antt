@@ -10,17 +10,17 @@
 --   12 to 15  header_crc   CRC-32 of bytes 0 to 11
 --   16 on     the area
 --   then      with a key   32 bytes, the HMAC-SHA256 of all bytes before it (RFC 2104)
-use Rattle.std.specs.Prelude.{ℕ, ◌+◌, ◌%◌, ◌^◌, ◌==◌, Bool, false, ◌&&◌, List, [], ◌++◌, length, take, drop, nat_le, Option, Some, None, if◌then◌else◌}
+use Rattle.std.specs.Prelude.{ℕ, ◌+◌, ◌-◌, ◌%◌, ◌^◌, ◌==◌, Bool, false, ◌&&◌, List, [], ◌++◌, length, take, drop, min, nat_le, Option, Some, None, if◌then◌else◌}
 use Rattle.std.specs.Str.{bytes_eq}
 use Rattle.byteorder.specs.Endian.{little_number, little_bytes}
 use Rattle.bb_base.specs.Crc.{crc_of}
-use Rattle.bb_base.specs.Form.{Form}
+use Rattle.bb_base.specs.Form.{Form, area_limit}
 use Rattle.bb_hmac.specs.Hmac.{hmac_of}
 
--- which raw record: its magic, its area's length, and the block of its key, if it has one
+-- which raw record: its magic, and the block of its key, if it has one; its area may have any
+-- length that its header can say
 pub record RawKind : Type 0 where
   pub magic : ℕ
-  pub area_len : ℕ
   pub key : Option (List ℕ)
 
 -- At a place stand the `len` low bytes of a number. These are all of it: a magic and a CRC have 32
@@ -71,42 +71,73 @@ abbrev pub raw_text : RawKind → List ℕ → List ℕ
 raw_text kind area = coded_text kind.magic area ++ hmac_text kind.key (coded_text kind.magic area)
 
 -- how many bytes it has, by how many the area has
-abbrev pub length_of : RawKind → ℕ → ℕ
-length_of kind len = header_len + len + code_len kind.key
-
-abbrev pub raw_length : RawKind → ℕ
-raw_length kind = length_of kind kind.area_len
+abbrev pub raw_length : RawKind → ℕ → ℕ
+raw_length kind len = header_len + len + code_len kind.key
 
 -- ---- what passes
 
--- the header is of this kind, and its check holds
-abbrev pub header_agrees : ℕ → ℕ → List ℕ → Bool
-header_agrees magic area_len bytes =
-    has_field 4 0 magic bytes && has_field 2 6 area_len bytes
-    && has_field 4 12 (crc_of (take 12 bytes)) bytes
+-- how many bytes the area has, as the header says
+abbrev pub data_len : List ℕ → ℕ
+data_len bytes = little_number 2 (drop 6 bytes) % 256 ^ 2
 
--- the area's check holds
+-- the header has this magic, and its check holds
+abbrev pub header_agrees : ℕ → List ℕ → Bool
+header_agrees magic bytes =
+    has_field 4 0 magic bytes && has_field 4 12 (crc_of (take 12 bytes)) bytes
+
+-- the check of an area of this length holds
 abbrev pub area_agrees : ℕ → List ℕ → Bool
 area_agrees area_len bytes = has_field 4 8 (crc_of (area_of area_len bytes)) bytes
 
--- there is a whole record of this kind, and its checks hold
-abbrev pub raw_agrees : RawKind → List ℕ → Bool
-raw_agrees kind bytes =
-    nat_le (raw_length kind) (length bytes) && header_agrees kind.magic kind.area_len bytes
-    && area_agrees kind.area_len bytes && has_code kind.key (header_len + kind.area_len) bytes
+-- there are enough bytes for a record of an area of this length, and its checks hold
+abbrev pub raw_agrees : RawKind → ℕ → List ℕ → Bool
+raw_agrees kind area_len bytes =
+    nat_le (raw_length kind area_len) (length bytes) && header_agrees kind.magic bytes
+    && area_agrees area_len bytes && has_code kind.key (header_len + area_len) bytes
 
--- the area that bytes pass as, if they do; what follows the record doesn't count
+-- the area of this length that bytes pass as, if they do
+abbrev pub passes_as_long : RawKind → ℕ → List ℕ → Option (List ℕ)
+passes_as_long kind area_len bytes =
+    if raw_agrees kind area_len bytes then Some (area_of area_len bytes) else None
+
+-- The area that bytes pass as, if they do: it is as long as the header says. What follows the
+-- record doesn't count.
 abbrev pub raw_passes : RawKind → List ℕ → Option (List ℕ)
-raw_passes kind bytes = if raw_agrees kind bytes then Some (area_of kind.area_len bytes) else None
+raw_passes kind bytes = passes_as_long kind (data_len bytes) bytes
 
--- the raw record as a format, in which nothing is old
-abbrev pub raw_form : RawKind → Form
-raw_form kind = record {
-  area_len = kind.area_len;
-  length_of = length_of kind;
-  reach = raw_length kind;
-  fits = λ area. length area == kind.area_len;
-  text = raw_text kind;
-  passes = raw_passes kind;
+-- ---- where a record stands
+
+-- the raw records of a kind that stand in so many bytes
+pub record RawRecords : Type 0 where
+  pub kind : RawKind
+  pub room : ℕ
+
+-- how many bytes the longest record has: the header, the longest area and a code
+abbrev pub record_limit : ℕ
+record_limit = 65583
+
+-- how many bytes of this room are left for an area, up to the longest
+abbrev pub area_room : Option (List ℕ) → ℕ → ℕ
+area_room key room = min area_limit (room - (header_len + code_len key))
+
+-- how many bytes the longest area has whose record stands there
+abbrev pub longest_in : RawRecords → ℕ
+longest_in raw = area_room raw.kind.key raw.room
+
+-- The area that bytes pass as, if they do, and its record stands there. That refuses no bytes that
+-- stand there themselves.
+abbrev pub passes_within : RawRecords → List ℕ → Option (List ℕ)
+passes_within raw bytes =
+    if nat_le (data_len bytes) (longest_in raw) then raw_passes raw.kind bytes else None
+
+-- these records as a format, in which nothing is old
+abbrev pub raw_form : RawRecords → Form
+raw_form raw = record {
+  area_len = longest_in raw;
+  length_of = raw_length raw.kind;
+  reach = raw_length raw.kind (longest_in raw);
+  fits = λ area. nat_le (length area) (longest_in raw);
+  text = raw_text raw.kind;
+  passes = passes_within raw;
   aged = λ bytes. false;
 }

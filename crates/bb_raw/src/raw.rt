@@ -1,14 +1,15 @@
-ghost use Rattle.std.specs.Prelude.{◌≡◌, ◌+◌, ◌≤◌, ◌++◌, ◌&&◌, ◌==◌, drop, length, take};
+ghost use Rattle.std.specs.Prelude.{◌≡◌, ◌+◌, ◌≤◌, ◌++◌, drop, length, take};
 ghost use Rattle.std.specs.Str.{bytes_eq};
 ghost use Rattle.bb_base.specs.Crc.{crc_of};
 ghost use Rattle.bb_base.specs.Form.{area_limit};
-ghost use Rattle.bb_raw.specs.Feeding.{parts_agree};
-ghost use Rattle.bb_raw.specs.Raw.{code_len, coded_text, has_field, header_agrees, header_len};
-ghost use Rattle.bb_raw.specs.Raw.{header_text, hmac_text, raw_form, raw_length};
-ghost use Rattle.bb_raw.specs.Laws.{raw_laws};
+ghost use Rattle.bb_raw.specs.Feeding.{passed_answer, fed_passes, has_come, parts_agree};
+ghost use Rattle.bb_raw.specs.Raw.{area_room, code_len, coded_text, data_len, has_field};
+ghost use Rattle.bb_raw.specs.Raw.{header_agrees, header_len, header_text, hmac_text, raw_form};
+ghost use Rattle.bb_raw.specs.Raw.{record_limit};
+ghost use Rattle.bb_raw.specs.RoomLaws.{raw_laws};
 
 use crate::feed::{RawFeed, take_in};
-use bb_base::{Format, Passed, crc32};
+use bb_base::{AREA_LIMIT, Format, Passed, crc32};
 use bb_hmac::{Key, hmac, same_mac};
 use byteorder::{ByteOrder, LittleEndian};
 use std::marker::Model;
@@ -19,72 +20,117 @@ pub const HEADER_LEN: usize = 16;
 // In bytes: an HMAC-SHA256.
 const CODE_LEN: usize = 32;
 
-/// The raw record of an area of one length, in bytes, under one magic: a header, and the area
+// In bytes: the longest record, which is that of `AREA_LIMIT` bytes under a key.
+const RECORD_LIMIT: u32 = 65_583;
+
+/// The raw record of an area of at most `AREA_LIMIT` bytes, under one magic: a header, and the area
 /// (barebox User Manual, State Framework, the backend `raw`). Numbers in it are little endian. With
 /// a key the record ends in the HMAC-SHA256 of all bytes before it, which are 32 bytes more (RFC
-/// 2104), and nothing passes without it.
+/// 2104), and nothing passes without it. The area that passes is as long as the header says.
 #[derive(Drop)]
 pub struct Raw {
     magic: u32,
-    area_len: u32,
     key: Option<Key>,
+    // in how many bytes each record stands
+    room: u32,
 }
 
 impl Model for Raw {
-    ghost use Rattle.std.specs.Prelude.{◌≤◌};
-    ghost use Rattle.bb_base.specs.Form.{area_limit};
-    ghost use Rattle.bb_raw.specs.Raw.{RawKind};
+    ghost use Rattle.bb_raw.specs.Raw.{RawRecords};
 
-    ghost Value = { RawKind };
+    ghost Value = { RawRecords };
 
-    ghost view = { λ r. record { magic = r.magic; area_len = r.area_len; key = r.key } };
-
-    ghost invariant = { λ r. r.area_len ≤ area_limit };
+    ghost view = { λ r. record {
+      kind = record { magic = r.magic; key = r.key };
+      room = r.room;
+    } };
 }
 
 impl Raw {
-    /// The format of areas of `area_len` bytes, at most `AREA_LIMIT`, under a key where one is
-    /// given.
-    pub fn of(magic: u32, area_len: u32, key: Option<Key>) -> Raw
-        requires { area_len ≤ area_limit }
-        ensures { result ≡ record { magic = magic; area_len = area_len; key = key } }
+    /// The format of areas of any length up to `AREA_LIMIT` bytes, under a key where one is given.
+    pub fn of(magic: u32, key: Option<Key>) -> Raw
+        ensures { result
+            ≡ record { kind = record { magic = magic; key = key }; room = record_limit } }
     {
-        Raw {
-            magic,
-            area_len,
-            key,
-        }
+        Raw::within(magic, key, RECORD_LIMIT)
     }
 
-    // How many bytes the record has.
-    fn record_len(&self) -> usize
-        ensures { result ≡ raw_length self.now }
+    /// The same for records that stand in `room` bytes: `area_len` is what they leave for an area,
+    /// up to `AREA_LIMIT`, and 0 where they leave nothing. A longer area passes as nothing.
+    pub fn within(magic: u32, key: Option<Key>, room: u32) -> Raw
+        ensures { result ≡ record { kind = record { magic = magic; key = key }; room = room } }
     {
-        HEADER_LEN + self.area_len as usize + code_len(&self.key)
+        Raw { magic, key, room }
     }
+}
 
-    // Whether a whole record came, and its checks hold.
-    fn passes(&self, feed: &RawFeed, area: &[u8]) -> bool
-        requires { length area.now ≡ self.now.area_len }
-        ensures { result ≡ (feed.now.count == raw_length self.now
-            && parts_agree self.now feed.now.header area.now
-            (take (code_len self.now.key) feed.now.code)) }
-    {
-        feed.count == self.record_len()
-            && self.agrees(&feed.header, area, &feed.code[..code_len(&self.key)])
+// What all that was fed passes as.
+fn passed_as(magic: u32, key: &Option<Key>, feed: &RawFeed, area: &[u8]) -> Option<Passed>
+    ensures { result ≡ passed_answer (data_len feed.now.header)
+        (fed_passes (record { magic = magic; key = key.now }) feed.now area.now) }
+{
+    let len = data_len(&feed.header);
+    if passes(magic, key, feed, area) {
+        Some(Passed { len, old: false })
+    } else {
+        None
     }
+}
 
-    // Whether the checks of a record with these parts hold: the header's first, then the area's,
-    // then the code.
-    fn agrees(&self, header: &[u8; 16], area: &[u8], code: &[u8]) -> bool
-        requires area { length area.now ≡ self.now.area_len }
-        requires code { length code.now ≡ code_len self.now.key }
-        ensures { result ≡ parts_agree self.now header.now area.now code.now }
-    {
-        header_passes(header, self.magic, self.area_len)
-            && area_passes(header, area)
-            && code_passes(&self.key, header, area, code)
-    }
+// Whether a whole record came, of an area as long as its header says, for which there is memory,
+// and its checks hold.
+fn passes(magic: u32, key: &Option<Key>, feed: &RawFeed, area: &[u8]) -> bool
+    ensures { result ≡ fed_passes (record { magic = magic; key = key.now }) feed.now area.now }
+{
+    let len = data_len(&feed.header);
+    len <= area.len() && has_come(magic, key, feed, area, len)
+}
+
+// The same of an area of `len` bytes.
+fn has_come(magic: u32, key: &Option<Key>, feed: &RawFeed, area: &[u8], len: usize) -> bool
+    requires inside { len ≤ length area.now }
+    requires small { len ≤ area_limit }
+    ensures { result ≡ has_come (record { magic = magic; key = key.now }) feed.now area.now len }
+{
+    let code_len = code_len(key);
+    let code = code_after(area, &feed.code[..code_len], len);
+    let whole = HEADER_LEN + len + code_len;
+    whole <= feed.count && agrees(magic, key, &feed.header, &area[..len], &code[..code_len])
+}
+
+// How many bytes the area has, as the header says.
+fn data_len(header: &[u8; 16]) -> usize
+    ensures value { result ≡ data_len header.now }
+    ensures small { result ≤ area_limit }
+{
+    LittleEndian::read_u16(&header[6..]) as usize
+}
+
+// The code after the first bytes of the area: it goes on in what came after all of it.
+fn code_after(area: &[u8], behind: &[u8], len: usize) -> [u8; 32]
+    requires inside { len ≤ length area.now }
+    requires few { length behind.now ≤ 32 }
+    ensures { take (length behind.now) result ≡ take (length behind.now) (drop len (area.now
+        ++ behind.now)) }
+{
+    let mut code = [0; CODE_LEN];
+    let rest = &area[len..];
+    let first = rest.len().min(behind.len());
+    code[..first].copy_from_slice(&rest[..first]);
+    code[first..behind.len()].copy_from_slice(&behind[..behind.len() - first]);
+    code
+}
+
+// Whether the checks of a record with these parts hold: the header's first, then the area's, then
+// the code.
+fn agrees(magic: u32, key: &Option<Key>, header: &[u8; 16], area: &[u8], code: &[u8]) -> bool
+    requires { length code.now ≡ code_len key.now }
+    ensures { result ≡ parts_agree (record { magic = magic; key = key.now }) header.now area.now
+        code.now }
+{
+    header_passes(header, magic)
+        && area_passes(header, area)
+        && code_passes(key, header, area, code)
 }
 
 fn code_len(key: &Option<Key>) -> usize
@@ -96,13 +142,19 @@ fn code_len(key: &Option<Key>) -> usize
     }
 }
 
-fn header_passes(bytes: &[u8], magic: u32, area_len: u32) -> bool
-    requires whole { header_len ≤ length bytes.now }
-    requires small { area_len ≤ area_limit }
-    ensures { result ≡ header_agrees magic area_len bytes.now }
+// How many bytes of a room are left for an area, at most `AREA_LIMIT`.
+fn area_room(key: &Option<Key>, room: u32) -> usize
+    ensures value { result ≡ area_room key.now room }
+    ensures small { result ≤ area_limit }
+{
+    (AREA_LIMIT as usize).min((room as usize).saturating_sub(HEADER_LEN + code_len(key)))
+}
+
+fn header_passes(bytes: &[u8], magic: u32) -> bool
+    requires { header_len ≤ length bytes.now }
+    ensures { result ≡ header_agrees magic bytes.now }
 {
     LittleEndian::read_u32(bytes) == magic
-        && u32::from(LittleEndian::read_u16(&bytes[6..])) == area_len
         && LittleEndian::read_u32(&bytes[12..]) == crc32(&bytes[..12])
 }
 
@@ -170,15 +222,14 @@ impl Format for Raw {
     ghost laws = { raw_laws };
 
     fn area_len(&self) -> usize {
-        self.area_len as usize
+        area_room(&self.key, self.room)
     }
 
     fn reach(&self) -> usize {
-        self.record_len()
+        HEADER_LEN + area_room(&self.key, self.room) + code_len(&self.key)
     }
 
     fn length(&self, len: usize) -> usize {
-        let _most = self.area_len;
         HEADER_LEN + len + code_len(&self.key)
     }
 
@@ -201,13 +252,6 @@ impl Format for Raw {
     }
 
     fn end(&self, feed: RawFeed, area: &[u8]) -> Option<Passed> {
-        if self.passes(&feed, area) {
-            Some(Passed {
-                len: area.len(),
-                old: false,
-            })
-        } else {
-            None
-        }
+        passed_as(self.magic, &self.key, &feed, area)
     }
 }

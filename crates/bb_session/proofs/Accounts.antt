@@ -25,7 +25,7 @@ sum_same : {X : Type 0} → (f g : X → ℕ) (xs : List X) → ((x : X) → f x
 sum_same f g [] same = refl
 sum_same f g (x ∷ xs) same = omega (arith, sum_by-cons f x xs, sum_by-cons g x xs, same x, sum_same f g xs same)
 
-sum_none : {X : Type 0} → (xs : List X) → sum_by (λ (x : X). 0) xs ≡ 0
+pub sum_none : {X : Type 0} → (xs : List X) → sum_by (λ (x : X). 0) xs ≡ 0
 sum_none {X} [] = refl
 sum_none {X} (x ∷ xs) = omega (arith, sum_by-cons (λ (y : X). 0) x xs, sum_none xs)
 

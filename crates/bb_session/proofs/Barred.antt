@@ -24,8 +24,15 @@ is_device_fault statuses.ReadFault = true
 is_device_fault statuses.WriteFault = true
 is_device_fault _ = false
 
+-- of a copy, or of a slot
+abbrev pub is_call_fault : Status → Bool
+is_call_fault statuses.ReadFault = true
+is_call_fault statuses.WriteFault = true
+is_call_fault statuses.SlotFault = true
+is_call_fault _ = false
+
 abbrev pub HasNoFault : Session → Type 0
-HasNoFault session = is_device_fault (ended_status session) ≡ false
+HasNoFault session = is_call_fault (ended_status session) ≡ false
 
 -- ---- refused memory
 
@@ -42,11 +49,15 @@ pub fault_device : (fault : CopyFault) → is_device_fault (status_of (copy_refu
 fault_device faults.ReadFault = refl
 fault_device _ = refl
 
-pub refused_whole : (session : Session) (refusal : Refusal) → session.refusal ≡ Some refusal → is_device_fault (status_of refusal) ≡ false → HasNoFault session
-refused_whole session refusal is none = ap (λ (r : Option Refusal). is_device_fault (option_map_or status_of r statuses.Done)) is ∙ none
+pub fault_call : (fault : CopyFault) → is_call_fault (status_of (copy_refusal fault)) ≡ true
+fault_call faults.ReadFault = refl
+fault_call _ = refl
+
+pub refused_whole : (session : Session) (refusal : Refusal) → session.refusal ≡ Some refusal → is_call_fault (status_of refusal) ≡ false → HasNoFault session
+refused_whole session refusal is none = ap (λ (r : Option Refusal). is_call_fault (option_map_or status_of r statuses.Done)) is ∙ none
 
 pub done_whole : (session : Session) → session.refusal ≡ None → HasNoFault session
-done_whole session is = ap (λ (r : Option Refusal). is_device_fault (option_map_or status_of r statuses.Done)) is
+done_whole session is = ap (λ (r : Option Refusal). is_call_fault (option_map_or status_of r statuses.Done)) is
 
 -- ---- a place and its target
 

@@ -1,6 +1,6 @@
 -- The work on a table that was loaded, as the work of a plan.
 use Rattle.std.proofs.Common.{◌≡◌, ℕ, ◌≤◌, Bool, true, List, [], ◌∷◌, length, Option, Some, None, is_none, is_some, Result, Ok, Err, refl, sym, ap, subst, ◌∙◌, if◌then◌else◌, inl, inr}
-use Rattle.std.specs.Option.{option_and_then, option_map_or}
+use Rattle.std.specs.Option.{IfSome, option_and_then, option_map_or}
 use Rattle.std.proofs.lemmas.Option.{same_Some}
 use Rattle.bb_actions.specs.Actions.{actions_text, after_all}
 use Rattle.bb_copies.specs.Store.{used_after}
@@ -15,6 +15,7 @@ use Rattle.bb_chooser.specs.Counting.{mark_good_of}
 use Rattle.bb_chooser.specs.declared.cause.Cause.{Cause}
 use Rattle.bb_state.specs.Backed.{Backed}
 use Rattle.bb_state.specs.Keyed.{Keyed}
+use Rattle.bb_state.specs.Kinds.{laid_kinds}
 use Rattle.bb_state.specs.State.{keyed_of, laid_of, last_table_of, used_of}
 use Rattle.bb_state.specs.declared.state.State.{State}
 use Rattle.bb_shell.specs.Boot.{AreRounds, Round, boot_end, end_by, first_table, last_round}
@@ -29,52 +30,69 @@ use Rattle.bb_shell.proofs.Answering.{best_is, best_none}
 use Rattle.bb_shell.proofs.Few.{few_rounds, reset_length}
 use Rattle.bb_shell.proofs.LastRounds.{last_there}
 use Rattle.bb_shell.proofs.Sequence.{none_run, save_run}
-use Rattle.bb_shell.proofs.Reached.{rounds_later}
-use Rattle.bb_session.specs.Acting.{Acts, AreRoundsOf, BootsFrom, NoneBest, SavesOnce, Stops, WorkAnswers, acts_of, answers_to_rounds, bar_refusal, kept_before, marks_of, needs_table, no_answers, refusal_by_table, rounds_for, saves_always, start_plans_of}
+use Rattle.bb_session.specs.Acting.{Acts, AreRoundsOf, BootsFrom, NoneBest, SavesOnce, Stops, WorkAnswers, acts_of, answers_to_rounds, bar_refusal, kept_before, marks_of, needs_table, no_answers, place_in, refusal_by_table, rounds_for, saves_always, start_plans_of}
+use Rattle.bb_session.specs.Around.{slot_of_work}
 use Rattle.bb_session.specs.Booting.{end_refusal, end_text}
 use Rattle.bb_session.specs.Doing.{EndsWith, IsDone, IsSavedOver, IsTold, SaveGives, said_of, stores}
 use Rattle.bb_session.specs.Marking.{good_text, lost_place}
-use Rattle.bb_plan.specs.Plan.{SessionPlan}
+use Rattle.bb_install.proofs.Beside.{beside_copies}
+use Rattle.bb_install.specs.Beside.{IsBesideCopies}
+use Rattle.bb_layout.specs.Kept.{IsLaid}
+use Rattle.bb_plan.specs.Plan.{IsServed, SessionPlan}
 use Rattle.bb_plan.specs.declared.plan.Work.{Work}
-use Rattle.bb_plan.specs.declared.plan.Work.TheVariants.{Act, Boot, Good, Write}
+use Rattle.bb_plan.specs.declared.plan.Work.TheVariants.{Act, Boot, Good, Install, Write}
 use Rattle.bb_plan.specs.Refusal.{copy_refusal}
 use Rattle.bb_plan.specs.declared.refusal.Refusal.{Refusal}
 use Rattle.bb_session.specs.Session.{Session, ended_by, loaded_area, session_by_acts, text_after, worked_on}
 use Rattle.bb_session.specs.Work.{IsLoaded, IsLoadedArea, IsPlayOf, IsReportOf, IsRunAfter, IsWorkedOut, area_taken}
 use Rattle.bb_session.specs.declared.report.Report.{Report}
+use Rattle.bb_layout.specs.Convert.{convert}
 use Rattle.bb_session.proofs.Acted.{as_work, rounds_back, table_session}
+use Rattle.bb_session.proofs.Around.{around_later, around_of}
 use Rattle.bb_session.proofs.Kept.{load_area}
 use Rattle.bb_session.proofs.Worked.{refused_ends, text_ends, worked_out}
+
+-- ---- the slot
+
+-- the slot that a work may write is, where the layout serves the work
+pub beside_slot : (keyed : Keyed) (work : Work) → IsLaid keyed.layout → IsServed keyed work →
+    IfSome (slot_of_work work) (IsBesideCopies (laid_kinds keyed.layout))
+beside_slot keyed (Install targets target place) facts served = beside_copies keyed.layout facts place.slot served.fits.beside
+beside_slot keyed _ facts served = tt
 
 -- ---- work after a load
 
 pub done_later : (keyed : Keyed) (used : Option ℕ) (table : List ℕ) (work : Work) (from mid to : Device)
     (answers : WorkAnswers) → IsRunAfter keyed work table used mid to answers → IsLater from mid → IsLater from to
 done_later keyed used table work from mid to answers ran later =
-    later_joined from mid to later (rounds_later keyed (start_plans_of work) ran.rounds (kept_before work table) used ran.now mid to ran.run)
+    later_joined from mid to later
+    (around_later keyed (start_plans_of work) (place_in (acts_of keyed.layout work table)) (kept_before work table) used ran.now ran.rounds
+    answers.stuck mid to ran.run)
 
-pub done_out : (keyed : Keyed) (work : Work) (from mid to : Device) (table : List ℕ) (loaded : Loaded)
+pub done_out : (keyed : Keyed) (work : Work) (from mid to : Device) (area table : List ℕ) (loaded : Loaded)
     (given : Result Report Refusal) → from.geometry ≡ keyed.layout.geometry → needs_table work ≡ true → 2 ≤ keyed.layout.copies →
-    IsLoadedArea keyed table loaded from mid → IsLoaded keyed (used_after loaded) from mid (Ok (area_taken table loaded)) →
+    IfSome (slot_of_work work) (IsBesideCopies (laid_kinds keyed.layout)) → IsLoadedArea keyed area loaded from mid →
+    table ≡ convert keyed.layout area → IsLoaded keyed (used_after loaded) from mid (Ok (area_taken area loaded)) →
     IsDone keyed (used_after loaded) table work mid to given → IsWorkedOut keyed work from to given
-done_out keyed work from mid to table loaded given geometry needs many gave load did =
-    let found = area_taken table loaded in
+done_out keyed work from mid to area table loaded given geometry needs many beside gave shows load did =
+    let found = area_taken area loaded in
     let plan : SessionPlan = record { keyed = keyed; work = work } in
     let here : IsDone keyed (used_after loaded) (loaded_area keyed.layout found) work mid to given =
-    subst (λ (t : List ℕ). IsDone keyed (used_after loaded) t work mid to given) (sym (load_area keyed table loaded from mid gave)) did in
+    subst (λ (t : List ℕ). IsDone keyed (used_after loaded) t work mid to given) (shows ∙ sym (load_area keyed area loaded from mid gave)) did in
     worked_out keyed work from to (Ok found) here.answers given
     (as_work plan from to (Ok found) here.answers needs
-    (record { middle = mid; used = used_after loaded; geometry = geometry; many = many; loaded = load; ran = here.ran }))
+    (record { middle = mid; used = used_after loaded; geometry = geometry; many = many; beside = beside; loaded = load; ran = here.ran }))
     (subst (λ (s : Session). EndsWith s given) (sym (table_session plan found here.answers needs)) here.ends)
 
 -- the load was refused
 pub done_unloaded : (keyed : Keyed) (work : Work) (from to : Device) (fault : CopyFault)
     (given : Result Report Refusal) → from.geometry ≡ keyed.layout.geometry → needs_table work ≡ true →
-    2 ≤ keyed.layout.copies → IsLoaded keyed None from to (Err fault) → given ≡ Err (copy_refusal fault) → IsWorkedOut keyed work from to given
-done_unloaded keyed work from to fault given geometry needs many load is =
+    2 ≤ keyed.layout.copies → IfSome (slot_of_work work) (IsBesideCopies (laid_kinds keyed.layout)) → IsLoaded keyed None from to (Err fault) →
+    given ≡ Err (copy_refusal fault) → IsWorkedOut keyed work from to given
+done_unloaded keyed work from to fault given geometry needs many beside load is =
     worked_out keyed work from to (Err fault) no_answers given
     (as_work (record { keyed = keyed; work = work }) from to (Err fault) no_answers needs
-    (record { middle = to; used = None; geometry = geometry; many = many; loaded = load; ran = (refl, refl) }))
+    (record { middle = to; used = None; geometry = geometry; many = many; beside = beside; loaded = load; ran = (refl, refl) }))
     (refused_ends (copy_refusal fault) [] given is)
 
 -- ---- rounds that were run
@@ -83,14 +101,14 @@ done_unloaded keyed work from to fault given geometry needs many load is =
 pub done_by : (keyed : Keyed) (used : Option ℕ) (table : List ℕ) (work : Work) (acts : Acts) →
     acts_of keyed.layout work table ≡ acts → (rounds : List Round) (now : Option ℕ) (from to : Device)
     (given : Result Report Refusal) → AreRoundsOf (start_plans_of work) acts rounds →
-    IsPlayOf acts (answers_to_rounds rounds) rounds →
+    IsPlayOf acts (answers_to_rounds rounds) rounds → place_in acts ≡ None →
     session_by_acts (record { keyed = keyed; work = work }) (Some table) acts (answers_to_rounds rounds)
     ≡ worked_on (record { keyed = keyed; work = work }) (Some table) acts
     (rounds_for (start_plans_of work) acts (answers_to_rounds rounds)) →
     AreRun keyed (start_plans_of work) (kept_before work table) used now rounds from to →
     EndsWith (worked_on (record { keyed = keyed; work = work }) (Some table) acts rounds) given →
     IsDone keyed used table work from to given
-done_by keyed used table work acts at rounds now from to given are played unscripted run ends =
+done_by keyed used table work acts at rounds now from to given are played unplaced unscripted run ends =
     let plan : SessionPlan = record { keyed = keyed; work = work } in
     let answers = answers_to_rounds rounds in
     record {
@@ -100,8 +118,11 @@ done_by keyed used table work acts at rounds now from to given are played unscri
         now = now;
         answers_are = refl;
         are = subst (λ a. AreRoundsOf (start_plans_of work) a rounds) (sym at) are;
-        run = run;
+        run =
+            around_of keyed (start_plans_of work) (place_in (acts_of keyed.layout work table)) (kept_before work table) used now rounds None
+            from to (ap place_in at ∙ unplaced) run;
         played = subst (λ a. IsPlayOf a answers rounds) (sym at) played;
+        listed = refl;
       };
       ends =
           subst (λ (s : Session). EndsWith s given)
@@ -116,7 +137,7 @@ pub done_barred : (keyed : Keyed) (used : Option ℕ) (table : List ℕ) (work :
     (refusal : Refusal) (given : Result Report Refusal) (acts : Acts) → acts_of keyed.layout work table ≡ acts →
     refusal_by_table acts ≡ Some refusal → given ≡ Err refusal → IsDone keyed used table work device device given
 done_barred keyed used table work device refusal given (Stops bar) at why is =
-    done_by keyed used table work (Stops bar) at [] used device device given refl refl refl
+    done_by keyed used table work (Stops bar) at [] used device device given refl refl refl refl
     (none_run keyed (start_plans_of work) (kept_before work table) used device)
     (refused_ends (bar_refusal bar) [] given (is ∙ ap (λ r. Err r) (sym (same_Some (bar_refusal bar) refusal why))))
 done_barred keyed used table work device refusal given _ at why is = absurd cc
@@ -153,7 +174,7 @@ module _ (keyed : Keyed) (used : Option ℕ) (table new : List ℕ) (from to : D
         IsDone keyed used table work from to given
     once_done refusal now run =
         done_by keyed used table work (SavesOnce new) acts (Rounds refusal) now from to given
-        (record { refusal = refusal; is = refl }) refl refl
+        (record { refusal = refusal; is = refl }) refl refl refl
         (save_run keyed (start_plans_of work) 0 (kept_before work table) used now new refusal from to run)
 
     done_saved : {A : Type 0} (saved : Result A Refusal) (o : Option CopyFault) (now : Option ℕ) →
@@ -235,7 +256,7 @@ module _ (targets : Binding) (cause : Cause) (plans : List (Option StartPlan)) (
   by_rounds [] are run ends =
       done_by (keyed_of before) (used_of before) before.table (Boot targets cause plans) (Stops NoneBest)
       (ap (λ o. if is_none o then Stops NoneBest else BootsFrom targets Table) (best_none targets Table are)) []
-      (used_of after) from to given refl refl refl run ends
+      (used_of after) from to given refl refl refl refl run ends
   by_rounds (round ∷ later) are run ends =
       done_by (keyed_of before) (used_of before) before.table (Boot targets cause plans) (BootsFrom targets Table)
       (ap (λ o. if is_none o then Stops NoneBest else BootsFrom targets Table) (best_is targets Table round.target are.0.best))
@@ -244,7 +265,7 @@ module _ (targets : Binding) (cause : Cause) (plans : List (Option StartPlan)) (
         are = are;
         some = ap (λ o. is_some o) (last_there round later).1;
         few = few_rounds targets plans Table (round ∷ later) binding (reset_length targets cause before.table binding sized ∙ sized) are;
-      }) refl refl run (subst (λ (s : Session). EndsWith s given) (sym (boot_ended targets (round ∷ later))) ends)
+      }) refl refl refl run (subst (λ (s : Session). EndsWith s given) (sym (boot_ended targets (round ∷ later))) ends)
 
   pub done_boot : IsBootDone
   done_boot =

@@ -19,13 +19,14 @@ use Rattle.bb_shell.specs.declared.outcome.Outcome.TheVariants as outcomes
 use Rattle.bb_plan.specs.Plan.{SessionPlan}
 use Rattle.bb_plan.specs.Refusal.{copy_refusal, status_of}
 use Rattle.bb_plan.specs.declared.refusal.Refusal.{Refusal}
-use Rattle.bb_plan.specs.declared.refusal.Refusal.TheVariants.{NoMemory, NoTarget, ScriptFailed, StartFailed, StepLimit}
+use Rattle.bb_plan.specs.declared.refusal.Refusal.TheVariants.{NoMemory, NoTarget, ScriptFailed, SlotFault, StartFailed, StepLimit}
 use Rattle.bb_plan.specs.declared.status.Status.{Status}
 use Rattle.bb_plan.specs.declared.status.Status.TheVariants as statuses
-use Rattle.bb_session.specs.Acting.{Acts, BootsFrom, LostPlace, NoneBest, Plays, Stops, TableBar, WorkAnswers, bar_refusal, play_of, rounds_for, start_plans_of}
+use Rattle.bb_session.specs.Acting.{Acts, BootsFrom, LastOne, Lists, LostPlace, NoneBest, Plays, SavesAround, Stops, TableBar, WorkAnswers, bar_refusal, play_of, rounds_for, save_rounds_around, start_plans_of}
+use Rattle.bb_session.specs.Around.{slot_refusal}
 use Rattle.bb_session.specs.Booting.{end_refusal}
 use Rattle.bb_session.specs.Scripting.{refusal_by_end}
-use Rattle.bb_session.specs.Session.{LoadAnswer, acts_after, ended_by, ended_status, rounds_after, session_by_acts, text_after, work_session, worked_on}
+use Rattle.bb_session.specs.Session.{LoadAnswer, acts_after, around_session, ended_by, ended_status, rounds_after, session_by_acts, shown, text_after, text_unstuck, work_session, worked_on}
 use Rattle.bb_session.proofs.Barred.{is_device_fault}
 
 -- ---- a fact about each refusal
@@ -54,6 +55,18 @@ module _ (P : Refusal → Type 0) (bar : (bar : TableBar) → P (bar_refusal bar
             end_refusal targets (option_map_or (λ (r : Round). end_by targets (length rounds) r r.outcome) last ends.NoTarget) ≡ Some refusal → P refusal
         by None is none h = subst P (same_Some NoTarget refusal h) (bar NoneBest)
         by (Some round) is none h = round_has round is round.outcome refl none refusal h
+
+  -- of saves around a slot: a call on the slot failed, or a save was refused
+  pub around_has : (stuck : Option ℕ) → ((at : ℕ) → stuck ≡ Some at → refused_in rounds ≡ None → P (SlotFault at)) →
+      (refusal : Refusal) → (around_session plan found stuck rounds).refusal ≡ Some refusal → P refusal
+  around_has stuck slot refusal h =
+      ended_has (refused_in rounds) (text_unstuck stuck (text_after plan found rounds)) (slot_refusal stuck) refl
+      (λ r none e. by stuck slot r none e) refusal h
+    where
+      by : (stuck : Option ℕ) → ((at : ℕ) → stuck ≡ Some at → refused_in rounds ≡ None → P (SlotFault at)) → (r : Refusal) →
+          refused_in rounds ≡ None → slot_refusal stuck ≡ Some r → P r
+      by None slot r none e = absurd (none-some r e)
+      by (Some at) slot r none e = subst P (same_Some (SlotFault at) r e) (slot at refl none)
 
   -- of work that was to do this
   pub worked_has : (acts : Acts) →
@@ -86,19 +99,24 @@ script_has P scripts script_ends.Fault None refused refusal h = absurd (none-som
 script_has P scripts script_ends.Fault (Some f) refused refusal h = subst P (same_Some (copy_refusal f) refusal h) (refused f refl)
 script_has P scripts script_ends.NoMemory fault refused refusal h = subst P (same_Some NoMemory refusal h) scripts.memory
 
-session_has : (P : Refusal → Type 0) → ((bar : TableBar) → P (bar_refusal bar)) → ((name : List ℕ) → P (StartFailed name)) → HoldsOfScripts P →
+session_has : (P : Refusal → Type 0) → ((bar : TableBar) → P (bar_refusal bar)) → ((name : List ℕ) → P (StartFailed name)) →
+    ((at : ℕ) → P (SlotFault at)) → HoldsOfScripts P →
     (plan : SessionPlan) (found : Option (List ℕ)) (answers : WorkAnswers) →
     ((fault : CopyFault) → refused_in (rounds_after plan found answers) ≡ Some fault → P (copy_refusal fault)) → (refusal : Refusal) →
     (work_session plan (Ok found) answers).refusal ≡ Some refusal → P refusal
-session_has P bar failed scripts plan found answers refused refusal h = by (acts_after plan found) refused h
+session_has P bar failed slot scripts plan found answers refused refusal h = by (acts_after plan found) refused h
   where
     by : (acts : Acts) → ((f : CopyFault) → refused_in (rounds_for (start_plans_of plan.work) acts answers) ≡ Some f → P (copy_refusal f)) →
-        (session_by_acts plan found acts answers).refusal ≡ Some refusal → P refusal
+        (session_by_acts plan (shown plan.keyed.layout found) acts answers).refusal ≡ Some refusal → P refusal
     by (Plays script known) refused h =
         let play = play_of script known answers in
         script_has P scripts (course_end play) (refused_in (course_at play).outside.rounds) refused refusal h
+    by (SavesAround first place second) refused h =
+        around_has P bar plan (shown plan.keyed.layout found) (save_rounds_around first second answers.stuck answers.rounds) refused answers.stuck
+        (λ at is none. slot at) refusal h
+    by Lists refused h = absurd (none-some refusal h)
     by acts refused h =
-        worked_has P bar plan found (rounds_for (start_plans_of plan.work) acts answers) refused acts
+        worked_has P bar plan (shown plan.keyed.layout found) (rounds_for (start_plans_of plan.work) acts answers) refused acts
         (λ targets table round name is last fails. failed name) refusal h
 
 -- a fault of the device is that for which the last save was refused
@@ -110,13 +128,14 @@ pub record IsRefusedFor (rounds : List Round) (refusal : Refusal) : Type 0 where
 pub bar_calm : (bar : TableBar) → is_device_fault (status_of (bar_refusal bar)) ≡ false
 bar_calm (LostPlace place) = refl
 bar_calm NoneBest = refl
+bar_calm (LastOne name) = refl
 
 pub session_fault : (plan : SessionPlan) (found : Option (List ℕ)) (answers : WorkAnswers) (refusal : Refusal) →
     is_device_fault (status_of refusal) ≡ true → (work_session plan (Ok found) answers).refusal ≡ Some refusal →
     IsRefusedFor (rounds_after plan found answers) refusal
 session_fault plan found answers refusal device h =
     session_has (λ r. is_device_fault (status_of r) ≡ true → IsRefusedFor (rounds_after plan found answers) r)
-    (λ bar e. absurd (both_ways _ (bar_calm bar) e)) (λ name e. absurd cc)
+    (λ bar e. absurd (both_ways _ (bar_calm bar) e)) (λ name e. absurd cc) (λ at e. absurd cc)
     (record { failed = λ status e. absurd cc; limit = λ e. absurd cc; memory = λ e. absurd cc }) plan found answers
     (λ fault last e. record { fault = fault; last = last; is = refl }) refusal h device
 
@@ -129,6 +148,8 @@ is_work statuses.WriteFault = true
 is_work statuses.NoTarget = true
 is_work statuses.StartFailed = true
 is_work statuses.NoGood = true
+is_work statuses.LastTarget = true
+is_work statuses.SlotFault = true
 is_work statuses.ScriptFailed = true
 is_work statuses.StepLimit = true
 is_work statuses.NoMemory = true
@@ -141,6 +162,7 @@ fault_work _ = refl
 bar_work : (bar : TableBar) → is_work (status_of (bar_refusal bar)) ≡ true
 bar_work (LostPlace place) = refl
 bar_work NoneBest = refl
+bar_work (LastOne name) = refl
 
 pub worked_work : (plan : SessionPlan) (load : LoadAnswer) (answers : WorkAnswers) → is_work (ended_status (work_session plan load answers)) ≡ true
 worked_work plan (Err fault) answers = fault_work fault
@@ -149,7 +171,7 @@ worked_work plan (Ok found) answers = by (work_session plan (Ok found) answers).
     by : (o : Option Refusal) → (work_session plan (Ok found) answers).refusal ≡ o → is_work (option_map_or status_of o statuses.Done) ≡ true
     by None e = refl
     by (Some refusal) e =
-        session_has (λ r. is_work (status_of r) ≡ true) bar_work (λ name. refl)
+        session_has (λ r. is_work (status_of r) ≡ true) bar_work (λ name. refl) (λ at. refl)
         (record { failed = λ status. refl; limit = refl; memory = refl }) plan found answers (λ fault last. fault_work fault) refusal e
 
 pub not_work : (status other : Status) → is_work status ≡ true → is_work other ≡ false → status ≢ other

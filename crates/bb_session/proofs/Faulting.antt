@@ -21,9 +21,8 @@ use Rattle.bb_copies.proofs.Runs.{later_refl}
 use Rattle.bb_flash.specs.Cuts.{IsLater}
 use Rattle.bb_flash.specs.Device.{Device, content}
 use Rattle.bb_flash.specs.Image.{Image}
-use Rattle.bb_layout.specs.Layout.{laid_len}
 use Rattle.bb_state.specs.Keyed.{Keyed}
-use Rattle.bb_state.specs.Kinds.{any_holding, bucket_at, laid_buckets, laid_form, laid_kinds}
+use Rattle.bb_state.specs.Kinds.{any_holding, bucket_at, laid_buckets, laid_form, laid_kinds, longest_len}
 use Rattle.bb_session.specs.Acting.{WorkAnswers}
 use Rattle.bb_plan.specs.Plan.{SessionPlan}
 use Rattle.bb_session.specs.Exactly.{last_area_of, saves_made}
@@ -45,13 +44,13 @@ rose_from first middle last more rose = omega arith
 pub rose_by : (rise before now : ℕ) → 1 ≤ rise → RoseBy rise before now → Rose before now
 rose_by rise before now some rose = omega arith
 
-rise_from : (rise first middle last : ℕ) → first ≤ middle → RoseBy rise middle last → RoseBy rise first last
+pub rise_from : (rise first middle last : ℕ) → first ≤ middle → RoseBy rise middle last → RoseBy rise first last
 rise_from rise first middle last more rose = omega arith
 
 pub copies_are : (keyed : Keyed) → length (laid_kinds keyed.layout) ≡ keyed.layout.copies
 copies_are keyed =
     length-map (laid_buckets keyed.layout) (λ bucket. (any_holding bucket).kind)
-    ∙ length-map (range_with_len 0 keyed.layout.copies) (bucket_at keyed.layout.geometry keyed.layout.storage keyed.layout.region (laid_len keyed.layout))
+    ∙ length-map (range_with_len 0 keyed.layout.copies) (bucket_at keyed.layout.geometry keyed.layout.storage keyed.layout.region (longest_len keyed.layout))
     ∙ length-range_with_len 0 keyed.layout.copies
 
 get_inside : {X : Type 0} → (xs : List X) (k : ℕ) → k < length xs → (x : X) × (slice_get xs k ≡ Some x)
@@ -135,16 +134,16 @@ module _ (plan : SessionPlan) (from : Device) where
   pub load_known : (used : Option ℕ) (to : Device) (answers : WorkAnswers) (fault : CopyFault) → IsLoaded plan.keyed used from to (Err fault) →
       IsKnown plan from to (Err fault) answers fault
   load_known used to answers ReadFault loaded =
-      record { tells = (loaded.fails.fails.cause, loaded.fails.fails.read); explains = loaded.fails.fails.content }
+      record { tells = (loaded.fails.cause, loaded.fails.read); explains = loaded.fails.content }
   load_known used to answers (WriteFault copy) loaded =
-      let fails = loaded.fails.fails in
-      let area = loaded.fails.area in
+      let fails = loaded.fails in
+      let area = fails.area in
       stuck_known (Err (WriteFault copy)) answers area copy from to
       (λ image e.
       let entry = fails.entry image e in
       sym (found_first [] area (passed_in plan.keyed page image) entry.some (entry.first [])))
       (later_refl from) fails.stuck
-  load_known used to answers Unsure loaded = absurd loaded.fails.fails
+  load_known used to answers Unsure loaded = absurd loaded.fails
 
   -- of a save of this area, after a load that answered Ok and what came after it, with `used` in
   -- use

@@ -1,14 +1,11 @@
 -- What a load takes of the copies, and what it leaves of them, as lists of what they pass.
-use Rattle.std.proofs.Common.{◌≡◌, ℕ, Bool, List, [], ◌∷◌, length, Option, Some, None, is_some, unwrap_or, refl, sym, ap, subst, ◌∙◌, if◌then◌else◌}
+use Rattle.std.proofs.Common.{◌≡◌, ℕ, Bool, List, [], ◌∷◌, Option, Some, None, is_some, unwrap_or, refl, sym, ap, subst, ◌∙◌, if◌then◌else◌}
 use Rattle.std.specs.Option.{IfSome}
 use Rattle.std.specs.Prelude.{All}
 use Rattle.std.specs.List.{AllByRecursion}
 use Rattle.std.proofs.lemmas.Bool.{cond_both}
-use Rattle.std.proofs.lemmas.Option.{option_and_then_some, same_Some}
+use Rattle.std.proofs.lemmas.Option.{same_Some}
 use Rattle.std.proofs.lemmas.List.Elements.{All-from_recursion}
-use Rattle.bb_base.specs.Form.{Form}
-use Rattle.bb_bucket.specs.Kind.{BucketKind, part_of}
-use Rattle.bb_copies.specs.Passing.{passing_of, passings}
 use Rattle.bb_copies.specs.Saving.{KeepsUsed}
 use Rattle.bb_copies.specs.StandsFor.{EachPassesOrNothing, IsAreaOrNone, SomeIsSpared, SomePasses, first_passed}
 use Rattle.bb_copies.specs.Store.{used_after}
@@ -19,9 +16,8 @@ use Rattle.bb_flash.specs.Device.{Device, content}
 use Rattle.bb_flash.specs.Image.{Image}
 use Rattle.bb_shell.proofs.Reached.{passes_some}
 use Rattle.bb_state.specs.Keyed.{Keyed}
-use Rattle.bb_state.specs.Kinds.{any_format_laws, format_of, laid_form, laid_kinds}
-use Rattle.bb_state.proofs.Fitting.{fits_sized}
-use Rattle.bb_plan.specs.Plan.{first_area}
+use Rattle.bb_shell.specs.Stages.{first_area}
+use Rattle.bb_layout.specs.Convert.{convert}
 use Rattle.bb_session.specs.Looking.{first_found, passed_in}
 use Rattle.bb_session.specs.Session.{loaded_area}
 use Rattle.bb_session.specs.Work.{IsLoadedArea, IsLoadedAs, area_taken}
@@ -55,50 +51,52 @@ found_or first (Some area ∷ passed) = refl
 pub load_found : (keyed : Keyed) (area : List ℕ) (loaded : Loaded) (from to : Device) (x : Image) →
     IsLoadedArea keyed area loaded from to → content from ≡ Some x →
     area_taken area loaded ≡ first_found (passed_in keyed from.geometry.page x)
-load_found keyed area (Copy used live) from to x found e =
+load_found keyed area (Copy used live len old) from to x found e =
     let entry = found.gives.entry x e in
-    found_first (first_area keyed.layout) area (passed_in keyed from.geometry.page x) entry.some
-    (entry.first (first_area keyed.layout))
+    found_first first_area area (passed_in keyed from.geometry.page x) entry.some
+    (entry.first first_area)
 load_found keyed area NoCopy from to x found e =
     found_none (passed_in keyed from.geometry.page x) (found.gives.none x e)
 
--- and the area is what the answer makes of the defaults
+-- and the table is what the layout reads of the area
 pub load_area : (keyed : Keyed) (area : List ℕ) (loaded : Loaded) (from to : Device) →
-    IsLoadedArea keyed area loaded from to → loaded_area keyed.layout (area_taken area loaded) ≡ area
-load_area keyed area (Copy used live) from to found = refl
-load_area keyed area NoCopy from to found = sym found.defaults
+    IsLoadedArea keyed area loaded from to → loaded_area keyed.layout (area_taken area loaded) ≡ convert keyed.layout area
+load_area keyed area (Copy used live len old) from to found = refl
+load_area keyed area NoCopy from to found = ap (convert keyed.layout) (sym found.says)
 
 -- what a load left that answered Ok
 pub record IsLeft (keyed : Keyed) (used : Option ℕ) (found : Option (List ℕ)) (before after : List (Option (List ℕ))) : Type 0 where
-  pub each : EachPassesOrNothing (first_passed (first_area keyed.layout) before) after
+  pub each : EachPassesOrNothing (first_passed first_area before) after
   pub spares : SomeIsSpared before after
   pub uses : KeepsUsed used after
-  pub table : first_passed (first_area keyed.layout) before ≡ loaded_area keyed.layout found
+  pub table : convert keyed.layout (first_passed first_area before) ≡ loaded_area keyed.layout found
 
 load_left : (keyed : Keyed) (area : List ℕ) (loaded : Loaded) (from to : Device) (x y : Image) → IsLoadedArea keyed area loaded from to →
     content from ≡ Some x → content to ≡ Some y →
     IsLeft keyed (used_after loaded) (area_taken area loaded) (passed_in keyed from.geometry.page x) (passed_in keyed from.geometry.page y)
-load_left keyed area (Copy used live) from to x y found e f =
+load_left keyed area (Copy used live len old) from to x y found e f =
     let after = passed_in keyed from.geometry.page y in
-    let first = (found.gives.entry x e).first (first_area keyed.layout) in
+    let first = (found.gives.entry x e).first first_area in
     let kept = found.gives.exit.kept y f in
     record {
       each = subst (λ a. EachPassesOrNothing a after) (sym first) kept.each;
       spares = λ some. passes_some after used area kept.passes;
       uses = ap is_some kept.passes;
-      table = first;
+      table = ap (convert keyed.layout) first;
     }
 load_left keyed area NoCopy from to x y found e f =
     let is = sym (same_Some y x (sym f ∙ found.gives.content ∙ e)) in
     let none = found.gives.none x e in
     let before = passed_in keyed from.geometry.page x in
-    let first = first_passed (first_area keyed.layout) before in
+    let first = first_passed first_area before in
     subst (λ z. IsLeft keyed None None before (passed_in keyed from.geometry.page z)) is
     (record {
       each = All-from_recursion (IsAreaOrNone first) before (none_each first before none);
       spares = λ some. absurd (none some);
       uses = none;
-      table = sym (found_or (first_area keyed.layout) before) ∙ ap (λ o. unwrap_or o (first_area keyed.layout)) (sym (found_none before none));
+      table =
+          ap (convert keyed.layout)
+          (sym (found_or first_area before) ∙ ap (λ o. unwrap_or o first_area) (sym (found_none before none)));
     })
 
 pub loaded_left : (keyed : Keyed) (used : Option ℕ) (found : Option (List ℕ)) (from to : Device) (x y : Image) → IsLoadedAs keyed used from to found →
@@ -114,30 +112,3 @@ loaded_left keyed used found from to x y gave e f page at_page =
 -- what is kept before the first save is what was loaded, if anything is
 pub kept_has : (P : List ℕ → Type 0) (always : Bool) (table : List ℕ) → P table → IfSome (if always then None else Some table) P
 kept_has P always table is = cond_both always None (Some table) (λ o. IfSome o P) (λ e. tt) (λ e. is)
-
-abbrev PassesSized : Form → ℕ → Type 0
-PassesSized form len = (bytes area : List ℕ) → form.passes bytes ≡ Some area → length area ≡ len
-
-form_sized : (keyed : Keyed) → PassesSized (laid_form keyed) keyed.layout.area_len
-form_sized keyed bytes area passes =
-    fits_sized keyed area ((any_format_laws (format_of keyed)).passed_fits bytes area passes)
-
-first_sized : (form : Form) (len page : ℕ) (image : Image) (first : List ℕ) → PassesSized form len → length first ≡ len →
-    (kinds : List BucketKind) → length (first_passed first (passings form page kinds image)) ≡ len
-first_sized form len page image first each sized [] = sized
-first_sized form len page image first each sized (kind ∷ kinds) =
-    by (first_sized form len page image first each sized kinds) (passing_of form page kind image) refl
-  where
-    by : length (first_passed first (passings form page kinds image)) ≡ len → (o : Option (List ℕ)) →
-        passing_of form page kind image ≡ o → length (first_passed first (o ∷ passings form page kinds image)) ≡ len
-    by later None e = later
-    by later (Some area) e =
-        option_and_then_some form.passes (kind.candidate_of (part_of page kind.region image)) area e
-        (λ bytes is passes. each bytes area passes)
-
--- the area that a load takes, or the one of an empty device
-pub passed_sized : (keyed : Keyed) (page : ℕ) (image : Image) → length (first_area keyed.layout) ≡ keyed.layout.area_len →
-    length (first_passed (first_area keyed.layout) (passed_in keyed page image)) ≡ keyed.layout.area_len
-passed_sized keyed page image sized =
-    first_sized (laid_form keyed) keyed.layout.area_len page image (first_area keyed.layout) (form_sized keyed) sized
-    (laid_kinds keyed.layout)

@@ -29,6 +29,7 @@ use Rattle.bb_session.specs.Scripting.{IsReported, ReportsRun, refusal_by_end, s
 use Rattle.bb_session.specs.Session.{Session}
 use Rattle.bb_session.specs.Work.{Gives, IsPlay}
 use Rattle.bb_session.specs.declared.report.Report.{Report}
+use Rattle.bb_session.proofs.Around.{around_of}
 use Rattle.bb_session.proofs.Plays.{plays_session, plays_to}
 
 -- ---- what the code gives of it
@@ -87,7 +88,7 @@ module _ (state : State) (targets : Binding) (plans : List (Option StartPlan)) (
     Ran = called_rounds device over.ran.acts over.ran.called
 
     abbrev Answered : WorkAnswers
-    Answered = record { rounds = map answer_of Ran; grants = over.grants }
+    Answered = record { rounds = map answer_of Ran; grants = over.grants; stuck = None; listed = [] }
 
     abbrev AsPlayed : IsPlay script Knows over.grants Ran
     AsPlayed =
@@ -107,8 +108,11 @@ module _ (state : State) (targets : Binding) (plans : List (Option StartPlan)) (
         now = over.new.commands.backed.used;
         answers_are = refl;
         are = record { are = over.calls; stops = over.all.ran.ran.stops };
-        run = run_kept;
+        run =
+            around_of (keyed_of state) plans None (Some state.table) (used_of state) over.new.commands.backed.used Ran None (device from) (device to)
+            refl run_kept;
         played = AsPlayed;
+        listed = refl;
       };
       ends =
           inl

@@ -17,11 +17,11 @@ use Rattle.bb_script_commands.specs.Playing.{ComeFirst, course_at, course_end}
 use Rattle.bb_script_commands.proofs.Fronts.{front_law}
 use Rattle.bb_shell.specs.Boot.{Round}
 use Rattle.bb_shell.specs.Sequence.{refused_in}
-use Rattle.bb_session.specs.Acting.{Acts, LostPlace, NoneBest, Plays, TableBar, WorkAnswers, bar_refusal, play_of, rounds_for, start_plans_of}
+use Rattle.bb_session.specs.Acting.{Acts, LastOne, Lists, LostPlace, NoneBest, Plays, SavesAround, TableBar, WorkAnswers, bar_refusal, play_of, rounds_for, save_rounds_around, start_plans_of}
 use Rattle.bb_session.specs.Scripting.{is_starved, refusal_by_end}
-use Rattle.bb_session.specs.Session.{Answers, LoadAnswer, Session, acts_after, end_by_acts, ended_status, granted_all, session_by, session_by_acts, work_session, worked_on}
+use Rattle.bb_session.specs.Session.{Answers, LoadAnswer, Session, acts_after, around_session, end_by_acts, ended_status, granted_all, session_by, session_by_acts, shown, work_session, worked_on}
 use Rattle.bb_session.proofs.Barred.{fault_device, is_device_fault}
-use Rattle.bb_session.proofs.Ended.{worked_has}
+use Rattle.bb_session.proofs.Ended.{around_has, worked_has}
 
 -- ---- the statuses that scripts alone have
 
@@ -37,6 +37,7 @@ IsOther refusal = is_scripts (status_of refusal) ≡ false
 bar_other : (bar : TableBar) → IsOther (bar_refusal bar)
 bar_other (LostPlace place) = refl
 bar_other NoneBest = refl
+bar_other (LastOne name) = refl
 
 calm_other : (status : Status) → is_device_fault status ≡ true → is_scripts status ≡ false
 calm_other statuses.ReadFault fault = refl
@@ -57,6 +58,17 @@ worked_other plan found acts rounds = by (worked_on plan found acts rounds).refu
         ap (λ (r : Option Refusal). is_scripts (option_map_or status_of r statuses.Done)) e
         ∙ worked_has IsOther bar_other plan found rounds (λ fault last. fault_other fault) acts
         (λ targets table round name is last failed. refl) refusal e
+
+around_other : (plan : SessionPlan) (found : Option (List ℕ)) (stuck : Option ℕ) (rounds : List Round) →
+    is_scripts (ended_status (around_session plan found stuck rounds)) ≡ false
+around_other plan found stuck rounds = by (around_session plan found stuck rounds).refusal refl
+  where
+    by : (refusal : Option Refusal) → (around_session plan found stuck rounds).refusal ≡ refusal →
+        is_scripts (option_map_or status_of (around_session plan found stuck rounds).refusal statuses.Done) ≡ false
+    by None e = ap (λ (r : Option Refusal). is_scripts (option_map_or status_of r statuses.Done)) e
+    by (Some refusal) e =
+        ap (λ (r : Option Refusal). is_scripts (option_map_or status_of r statuses.Done)) e
+        ∙ around_has IsOther bar_other plan found rounds (λ fault last. fault_other fault) stuck (λ at is none. refl) refusal e
 
 -- ---- so a session that has one ran a script
 
@@ -84,6 +96,11 @@ acted_script plan found (Plays script known) answers answer scripts e =
       status = e;
       starved = λ short. ap (λ s. if s then [] else (course_at play).text) short;
     }
+acted_script plan found (SavesAround first place second) answers answer scripts e =
+    absurd
+    (false≢true
+    (sym (around_other plan found answers.stuck (save_rounds_around first second answers.stuck answers.rounds)) ∙ ap is_scripts e ∙ scripts))
+acted_script plan found Lists answers answer scripts e = absurd (false≢true (ap is_scripts e ∙ scripts))
 acted_script plan found acts answers answer scripts e =
     absurd
     (false≢true
@@ -106,7 +123,7 @@ plan_front (Err end) answers = all_first (session_by (Err end) answers).rounds
 plan_front (Ok plan) answers = by answers.load
   where
     by : (load : LoadAnswer) → ComeFirst (work_session plan load answers.work).rounds (work_session plan load (record answers.work { grants = None })).rounds
-    by (Ok found) = acted_front plan found (acts_after plan found) answers.work
+    by (Ok found) = acted_front plan (shown plan.keyed.layout found) (acts_after plan found) answers.work
     by (Err fault) = all_first []
 
 -- ---- the end that has the status

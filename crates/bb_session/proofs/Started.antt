@@ -1,11 +1,12 @@
 -- What a session says of rounds and starts, from its work.
-use Rattle.std.proofs.Common.{◌≡◌, ◌⊎◌, ℕ, true, List, [], Option, Some, IsNone, is_some, Ok, Err, refl, sym, ap, subst, ◌∙◌, inl, inr, arith}
+use Rattle.std.proofs.Common.{◌≡◌, ◌⊎◌, ℕ, true, false, List, [], Option, Some, IsNone, is_some, Ok, Err, refl, sym, ap, subst, ◌∙◌, inl, inr, arith}
 use Rattle.std.proofs.lemmas.Bool.{both_ways, false≢true}
-use Rattle.std.proofs.lemmas.Option.{same_Some}
+use Rattle.std.proofs.lemmas.Option.{none-some, same_Some}
 use Rattle.std.specs.Option.{ForSome, option_and_then}
 use Rattle.bb_base.specs.Faults.{Rose}
 use Rattle.bb_chooser.specs.Binding.{Binding}
-use Rattle.bb_copies.specs.StandsFor.{EachPassesOrNothing}
+use Rattle.bb_state.proofs.Showing.{all_show}
+use Rattle.bb_state.specs.Shows.{EachShowsOrNothing}
 use Rattle.bb_copies.specs.declared.answers.CopyFault.{CopyFault}
 use Rattle.bb_flash.specs.Device.{Device, LeavesStarts, Told, content}
 use Rattle.bb_flash.specs.declared.plan.Plan.{Plan as StartPlan}
@@ -23,18 +24,30 @@ use Rattle.bb_shell.proofs.Sequence.{adds_from}
 use Rattle.bb_plan.specs.Plan.{SessionPlan}
 use Rattle.bb_plan.specs.Refusal.{copy_refusal, status_of}
 use Rattle.bb_plan.specs.declared.plan.Work.{Work}
+use Rattle.bb_plan.specs.declared.plan.Work.TheVariants.{History, Show}
 use Rattle.bb_plan.specs.declared.refusal.Refusal.{Refusal}
 use Rattle.bb_plan.specs.declared.status.Status.TheVariants as statuses
-use Rattle.bb_session.specs.Acting.{Acts, AreBootRounds, AreRoundsOf, LostPlace, NoneBest, Plays, TableBar, WorkAnswers, acts_of, bar_refusal, kept_before, play_of, rounds_for, saves_always, start_plans_of}
+use Rattle.bb_session.specs.Acting.{Acts, AreBootRounds, AreRoundsOf, LastOne, Lists, LostPlace, NoneBest, Plays, SavesAround, TableBar, WorkAnswers, acts_of, bar_refusal, kept_before, needs_table, play_of, rounds_for, saves_always, start_plans_of}
 use Rattle.bb_session.specs.Looking.{passed_in}
-use Rattle.bb_session.specs.Session.{LoadAnswer, acts_after, loaded_area, rounds_after, session_by_acts, work_session, worked_on}
+use Rattle.bb_session.specs.Session.{LoadAnswer, acts_after, around_session, loaded_area, rounds_after, session_by_acts, shown, work_session, worked_on}
 use Rattle.bb_session.specs.Work.{IsTableWork, IsWork}
 use Rattle.bb_session.proofs.Acted.{by_work, look_rounds, ran_of, session_after, session_rounds}
 use Rattle.bb_session.proofs.Barred.{fault_device, is_device_fault}
-use Rattle.bb_session.proofs.Ended.{script_has, worked_has}
+use Rattle.bb_session.proofs.Ended.{around_has, script_has, worked_has}
 use Rattle.bb_session.proofs.Kept.{kept_has, loaded_left}
 
 -- ---- the rounds of a session
+
+-- a work that only reads has none
+none_are : (plan : SessionPlan) (found : Option (List ℕ)) → needs_table plan.work ≡ false →
+    AreRoundsOf (start_plans_of plan.work) (acts_after plan found) []
+none_are plan found reads = by plan.work reads
+  where
+    by : (w : Work) → needs_table w ≡ false →
+        AreRoundsOf (start_plans_of w) (acts_of plan.keyed.layout w (loaded_area plan.keyed.layout found)) []
+    by Show reads = refl
+    by History reads = refl
+    by _ reads = absurd cc
 
 pub work_rounds : (plan : SessionPlan) (from to : Device) (found : Option (List ℕ)) (answers : WorkAnswers) → IsWork plan from to (Ok found) answers →
     AreRoundsOf (start_plans_of plan.work) (acts_after plan found) (work_session plan (Ok found) answers).rounds
@@ -42,10 +55,9 @@ work_rounds plan from to found answers work =
     by_work plan from to (Ok found) answers work
     (λ needs done.
     subst (AreRoundsOf (start_plans_of plan.work) (acts_after plan found)) (sym (session_rounds done)) done.ran.are)
-    (λ shows done.
-    subst
-    (λ (w : Work). AreRoundsOf (start_plans_of w) (acts_of plan.keyed.layout w (loaded_area plan.keyed.layout found))
-    (work_session (record { keyed = plan.keyed; work = w }) (Ok found) answers).rounds) (sym shows) refl)
+    (λ reads done.
+    subst (AreRoundsOf (start_plans_of plan.work) (acts_after plan found)) (sym (look_rounds plan (Ok found) answers reads))
+    (none_are plan found reads))
 
 -- ---- starts
 
@@ -79,16 +91,16 @@ pub work_started : (plan : SessionPlan) (from to : Device) (load : LoadAnswer) (
 work_started plan from to load answers work =
     by_work plan from to load answers work
     (λ needs done. table_started plan from to load answers done)
-    (λ shows done.
-    none_started (start_plans_of plan.work) (work_session plan load answers).rounds from to (look_rounds plan load answers shows) done.looked.quiet.starts)
+    (λ reads done.
+    none_started (start_plans_of plan.work) (work_session plan load answers).rounds from to (look_rounds plan load answers reads) done.looked.quiet.starts)
 
 -- ---- a start comes after its save
 
--- after these rounds every copy passes their last table or nothing
+-- after these rounds every copy passes an area that shows their last table, or nothing
 abbrev pub PassAfter : SessionPlan → Option (List ℕ) → Device → Device → List Round → Type 0
 PassAfter plan found from to rounds =
     ForSome (content to)
-    (λ image. EachPassesOrNothing (table_after (loaded_area plan.keyed.layout found) rounds) (passed_in plan.keyed from.geometry.page image))
+    (λ image. EachShowsOrNothing plan.keyed.layout (table_after (loaded_area plan.keyed.layout found) rounds) (passed_in plan.keyed from.geometry.page image))
 
 table_stored : (plan : SessionPlan) (from to : Device) (found : Option (List ℕ)) (answers : WorkAnswers) →
     (work : IsTableWork plan from to (Ok found) answers) → started_last work.ran.rounds ≡ true → PassAfter plan found from to work.ran.rounds
@@ -103,10 +115,10 @@ table_stored plan from to found answers work started = λ image at_to.
     let first = there (λ (t : Told). t.image) mid.told from.told middle.0 (sym work.loaded.later.told) middle.1 in
     let left = loaded_left keyed work.used found from mid first.0 middle.0 work.loaded.gives first.1 middle.1 keyed.layout.geometry.page at_page in
     let here = did.stored (started_unrefused rounds started) middle.0 middle.1 image at_to
-    (kept_has (λ t. EachPassesOrNothing t (laid_passings keyed middle.0)) (saves_always plan.work) table
-    (subst (λ t. EachPassesOrNothing t (laid_passings keyed middle.0)) left.table left.each)) in
-    subst (λ p. EachPassesOrNothing (table_after table rounds) (passed_in keyed p image)) (sym at_page)
-    (subst (λ k. HoldsKept k (laid_passings keyed image)) (started_kept (kept_before plan.work table) table rounds started) here)
+    (kept_has (λ t. EachShowsOrNothing keyed.layout t (laid_passings keyed middle.0)) (saves_always plan.work) table
+    (all_show keyed.layout _ table (laid_passings keyed middle.0) left.table left.each)) in
+    subst (λ p. EachShowsOrNothing keyed.layout (table_after table rounds) (passed_in keyed p image)) (sym at_page)
+    (subst (λ k. HoldsKept keyed.layout k (laid_passings keyed image)) (started_kept (kept_before plan.work table) table rounds started) here)
 
 pub work_stored : (plan : SessionPlan) (from to : Device) (found : Option (List ℕ)) (answers : WorkAnswers) → IsWork plan from to (Ok found) answers →
     started_last (work_session plan (Ok found) answers).rounds ≡ true → PassAfter plan found from to (work_session plan (Ok found) answers).rounds
@@ -115,7 +127,7 @@ work_stored plan from to found answers work started =
     (λ needs done.
     subst (PassAfter plan found from to) (sym (session_rounds done))
     (table_stored plan from to found answers done (sym (ap started_last (session_rounds done)) ∙ started)))
-    (λ shows done. absurd (false≢true (sym (ap started_last (look_rounds plan (Ok found) answers shows)) ∙ started)))
+    (λ reads done. absurd (false≢true (sym (ap started_last (look_rounds plan (Ok found) answers reads)) ∙ started)))
 
 -- ---- a start that failed
 
@@ -133,6 +145,7 @@ not_fault fault e = both_ways _ (ap is_device_fault e) (fault_device fault)
 not_bar : (bar : TableBar) → IsStartFailed (bar_refusal bar) → ⊥
 not_bar (LostPlace place) e = cc
 not_bar NoneBest e = cc
+not_bar (LastOne name) e = cc
 
 module _ (plans : List (Option StartPlan)) (rounds : List Round) (from to : Device)
     (rose : RaisedBy (failed_starts rounds) from.start_faults to.start_faults) where
@@ -169,6 +182,12 @@ module _ (plans : List (Option StartPlan)) (rounds : List Round) (from to : Devi
       script_has (λ r. IsStartFailed r → FailsBy plans (last_round rounds) from to)
       (record { failed = λ status e. absurd cc; limit = λ e. absurd cc; memory = λ e. absurd cc })
       (course_end play) (refused_in (course_at play).outside.rounds) (λ fault last e. absurd (not_fault fault e)) refusal h
+  -- nor have saves around a slot this one
+  acted_cause plan found (SavesAround first place second) answers are is refusal h =
+      around_has (λ r. IsStartFailed r → FailsBy plans (last_round rounds) from to) (λ bar e. absurd (not_bar bar e)) plan found rounds
+      (λ fault last e. absurd (not_fault fault e)) answers.stuck (λ at is none e. absurd cc) refusal
+      (subst (λ (r : List Round). (around_session plan found answers.stuck r).refusal ≡ Some refusal) is h)
+  acted_cause plan found Lists answers are is refusal h = absurd (none-some refusal h)
   acted_cause plan found acts answers are is refusal h =
       worked_cause plan found acts are refusal
       (subst (λ (r : List Round). (worked_on plan found acts r).refusal ≡ Some refusal) is h)
@@ -184,5 +203,5 @@ work_cause plan from to (Ok found) answers work refusal h failed =
     subst (λ (r : List Round). FailsBy plans (last_round r) from to) (sym same)
     (acted_cause plans (rounds_after plan found answers) from to
     (subst (λ (r : List Round). RaisedBy (failed_starts r) from.start_faults to.start_faults) same
-    (work_started plan from to (Ok found) answers work).rose) plan found (acts_after plan found) answers
+    (work_started plan from to (Ok found) answers work).rose) plan (shown plan.keyed.layout found) (acts_after plan found) answers
     (subst (AreRoundsOf plans (acts_after plan found)) same (work_rounds plan from to found answers work)) refl refusal h failed)

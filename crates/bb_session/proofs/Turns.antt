@@ -16,29 +16,30 @@ use Rattle.bb_flash.specs.Cuts.{IsLater}
 use Rattle.bb_flash.specs.Device.{Change, Device, Told, content, moment}
 use Rattle.bb_flash.specs.Image.{Image}
 use Rattle.bb_flash.specs.declared.plan.Plan.{Plan as StartPlan}
+use Rattle.bb_flash.specs.declared.region.Region.{Region}
 use Rattle.bb_flash.proofs.Counting.{counted_joined_at}
 use Rattle.bb_state.specs.Keyed.{Keyed}
 use Rattle.bb_state.specs.Kinds.{laid_form, laid_kinds, laid_passings}
 use Rattle.bb_shell.specs.Boot.{Round}
 use Rattle.bb_shell.specs.Counting.{target_started}
-use Rattle.bb_shell.specs.Sequence.{RanRounds}
-use Rattle.bb_shell.specs.Stages.{IsCounted as IsCountedHere, IsSettled, made_of, saves_of, stages_reached}
+use Rattle.bb_shell.specs.Stages.{IsCounted as IsCountedHere, IsSettled, first_area, made_of, saves_of, stages_reached}
 use Rattle.bb_shell.proofs.Made.{made_least, made_most, made_started}
 use Rattle.bb_shell.proofs.Trails.{fair_from, in_order}
-use Rattle.bb_plan.specs.Plan.{first_area}
 use Rattle.bb_session.specs.Looking.{passed_in}
 use Rattle.bb_session.specs.Session.{loaded_area}
 use Rattle.bb_session.specs.SessionTurns.{HasEntryTrail, HasTrail, IsCounted, IsFairRun, LeadsTo}
 use Rattle.bb_session.specs.Work.{IsLoaded, IsLoadedAs}
+use Rattle.bb_layout.specs.Convert.{convert}
+use Rattle.bb_session.proofs.Around.{RanWork}
 use Rattle.bb_session.proofs.Kept.{loaded_left}
 
 pub told_content : (device : Device) (told : Told) → device.told ≡ Some told → content device ≡ Some told.image
 told_content device told e = ap (option_map (λ (t : Told). t.image)) e
 
 pub standing_at : (keyed : Keyed) (page : ℕ) (before : Content) (x : Image) → before.passed ≡ passed_in keyed page x →
-    IsStanding (first_area keyed.layout) before →
-    StandsFor (first_area keyed.layout) (passed_in keyed page x) before.areas before.acked before.marks
-standing_at keyed page before x is stands = subst (λ p. StandsFor (first_area keyed.layout) p before.areas before.acked before.marks) is stands
+    IsStanding first_area before →
+    StandsFor first_area (passed_in keyed page x) before.areas before.acked before.marks
+standing_at keyed page before x is stands = subst (λ p. StandsFor first_area p before.areas before.acked before.marks) is stands
 
 -- of the images that count since now there is one
 pub counts_now : (L : Change → Image → Type 0) (page : ℕ) (told : Told) (image : Image) →
@@ -72,7 +73,7 @@ weaker_trail S T now first (milestone ∷ later) same h = (
 
 module _ (keyed : Keyed) (page : ℕ) (before : Content) where
   abbrev First : List ℕ
-  First = first_area keyed.layout
+  First = first_area
 
   -- so it is in each image that counts
   abbrev pub Stays : Told → Told → Type 0
@@ -103,7 +104,7 @@ module _ (keyed : Keyed) (page : ℕ) (before : Content) where
 
 module _ (keyed : Keyed) (from mid : Device) (first middle : Told) (e : from.told ≡ Some first) (g : mid.told ≡ Some middle) (before : Content)
     (geometry : from.geometry ≡ keyed.layout.geometry) (is : before.passed ≡ laid_passings keyed first.image)
-    (stands : IsStanding (first_area keyed.layout) before)
+    (stands : IsStanding first_area before)
     (images : LoadImages (laid_form keyed) (laid_kinds keyed.layout) from mid) (early : IsLater from mid) where
   abbrev Page : ℕ
   Page = keyed.layout.geometry.page
@@ -112,7 +113,7 @@ module _ (keyed : Keyed) (from mid : Device) (first middle : Told) (e : from.tol
   Luck = IsLucky (laid_passings keyed)
 
   abbrev Empty : List ℕ
-  Empty = first_area keyed.layout
+  Empty = first_area
 
   at_page : from.geometry.page ≡ Page
   at_page = ap (λ g. g.page) geometry
@@ -141,8 +142,8 @@ module _ (keyed : Keyed) (from mid : Device) (first middle : Told) (e : from.tol
 
   module _ (to : Device) (last : Told) (f : to.told ≡ Some last) (late : IsLater mid to)
       (used : Option ℕ) (found : Option (List ℕ)) (gave : IsLoadedAs keyed used from mid found)
-      (plans : List (Option StartPlan)) (kept : Option (List ℕ)) (of_table : IfSome kept (λ table. table ≡ loaded_area keyed.layout found))
-      (rounds : List Round) (now : Option ℕ) (ran : RanRounds keyed plans kept used now rounds mid to) where
+      (plans : List (Option StartPlan)) (slot : Option Region) (kept : Option (List ℕ)) (of_table : IfSome kept (λ table. table ≡ loaded_area keyed.layout found))
+      (rounds : List Round) (now : Option ℕ) (ran : RanWork keyed plans slot kept used now rounds mid to) where
     abbrev Saves : List (List ℕ)
     Saves = saves_of kept rounds
 
@@ -161,8 +162,9 @@ module _ (keyed : Keyed) (from mid : Device) (first middle : Told) (e : from.tol
           area =
               IfSome_then kept of_table
               (λ t same.
-              get_take (picked marks + 1) h (picked marks) (omega arith)
-              ∙ picked_is_first Empty passed h a marks standing ∙ ap (λ t. Some t) (left.table ∙ sym same));
+              ap (option_map (convert keyed.layout))
+              (get_take (picked marks + 1) h (picked marks) (omega arith) ∙ picked_is_first Empty passed h a marks standing)
+              ∙ ap (λ t. Some t) (left.table ∙ sym same));
           uses = left.uses;
         }
 
@@ -172,7 +174,7 @@ module _ (keyed : Keyed) (from mid : Device) (first middle : Told) (e : from.tol
     abbrev Given : List (List ℕ)
     Given = take (Place + 1) before.areas
 
-    settled : IsSettled keyed kept used middle.image Given Place
+    pub settled : IsSettled keyed kept used middle.image Given Place
     settled =
         settled_at first.image middle.image (told_content from first e) (told_content mid middle g) before.areas before.acked
         before.marks start

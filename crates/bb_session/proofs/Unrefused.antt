@@ -2,7 +2,7 @@
 -- was begun answered Ok. What its load gave, which copies it may name, and what its session is.
 use Rattle.std.proofs.Common.{◌≡◌, ◌≢◌, ◌⊎◌, ℕ, ◌≤◌, Bool, true, false, List, [], ◌∷◌, map, Option, Some, None, is_none, is_some, Result, Ok, Err, IfErr, refl, sym, ap, subst, ◌∙◌, inl, inr, arith}
 use Rattle.std.specs.List.{list_all}
-use Rattle.std.specs.Option.{option_map, option_map_or}
+use Rattle.std.specs.Option.{IfSome, option_map, option_map_or}
 use Rattle.std.specs.Prelude.{⊤}
 use Rattle.std.proofs.lemmas.Bool.{and_from, both_ways, false≢true, false_from_ne_true, not_from_false}
 use Rattle.bb_base.specs.Faults.{Rose}
@@ -32,18 +32,21 @@ use Rattle.bb_plan.specs.Plan.{SessionPlan}
 use Rattle.bb_plan.specs.Refusal.{status_of, IsSendableRefusal, copy_refusal}
 use Rattle.bb_plan.specs.declared.refusal.Refusal.{Refusal}
 use Rattle.bb_plan.specs.declared.status.Status.TheVariants.{Done}
-use Rattle.bb_session.specs.Acting.{Acts, ArePlayedRounds, AreRoundsOf, BootsFrom, Plays, SavesOnce, Stops, WorkAnswers, most_rounds, play_of, rounds_for, sound_answers, start_plans_of}
-use Rattle.bb_session.specs.Looking.{first_found, passed_in}
+use Rattle.bb_session.specs.Acting.{Acts, ArePlayedRounds, AreRoundsOf, BootsFrom, IsSavedAround, Lists, Plays, SavesAround, SavesOnce, Stops, WorkAnswers, around_rounds, listing, most_rounds, needs_table, place_in, play_of, rounds_for, save_rounds_around, sound_answers, start_plans_of}
+use Rattle.bb_session.specs.Around.{slot_refusal}
+use Rattle.bb_session.specs.Looking.{first_found, listed_by, passed_in}
 use Rattle.bb_session.specs.Scripting.{refusal_by_end}
-use Rattle.bb_session.specs.Session.{LoadAnswer, Session, acts_after, answers_after, ended_by, played_session, refusal_at_end, session_by_acts, text_after, work_session, worked_on}
-use Rattle.bb_session.specs.Work.{IsLoadedAs, IsPlay, IsPlayOf, IsTableWork, IsWork, IsWorkedOut}
-use Rattle.bb_session.proofs.Acted.{acts_stop, by_work, ran_of, rounds_back, session_after}
-use Rattle.bb_session.proofs.Barred.{HasMemory, HasNoFault, fault_device, is_device_fault, is_memory}
+use Rattle.bb_session.specs.Session.{LoadAnswer, Session, acts_after, answers_after, around_session, done_with, ended_by, played_session, refusal_at_end, session_by_acts, shown, text_after, text_unstuck, work_session, worked_on}
+use Rattle.bb_session.specs.Work.{IsListed, IsLoadedAs, IsPlay, IsPlayOf, IsTableWork, IsWork, IsWorkedOut}
+use Rattle.bb_session.proofs.Acted.{by_work, ran_of, rounds_back, session_after}
+use Rattle.bb_session.proofs.Around.{acts_stop}
+use Rattle.bb_session.proofs.Barred.{HasMemory, HasNoFault, fault_call, is_call_fault, is_device_fault, is_memory}
 use Rattle.bb_session.proofs.Faulting.{FaultTells}
-use Rattle.bb_session.proofs.Faults.{work_explains}
+use Rattle.bb_session.proofs.Faults.{work_explains, work_stuck}
 use Rattle.bb_session.proofs.Kept.{load_found}
 use Rattle.bb_session.proofs.Plays.{ended_play, plays_session, plays_to}
 use Rattle.bb_plan.specs.declared.plan.Work.{Work}
+use Rattle.bb_plan.specs.declared.plan.Work.TheVariants.{History, Show}
 use Rattle.bb_plan.specs.declared.refusal.Refusal.TheVariants as refusals
 use Rattle.bb_session.specs.declared.report.Report.{Report}
 
@@ -53,16 +56,26 @@ fault_rose : (keyed : Keyed) (from to : Device) (fault : CopyFault) → FaultTel
 fault_rose keyed from to faults.Unsure tells = absurd tells
 fault_rose keyed from to _ tells = tells.0
 
+-- a call on a copy failed, or one on a slot
+call_rose : (plan : SessionPlan) (from to : Device) (load : LoadAnswer) (answers : WorkAnswers) (refusal : Refusal) →
+    IsWork plan from to load answers → (work_session plan load answers).refusal ≡ Some refusal →
+    is_call_fault (status_of refusal) ≡ true → (device : Bool) → is_device_fault (status_of refusal) ≡ device →
+    Rose from.faults to.faults
+call_rose plan from to load answers refusal work is call true device =
+    let fault = work_explains plan from to load answers refusal device work is in
+    fault_rose plan.keyed from to fault.fault fault.known.tells
+call_rose plan from to load answers refusal work is call false device =
+    work_stuck plan from to load answers refusal call device work is
+
 -- where no call of the device failed no part of the work was refused
 pub unrefused : (plan : SessionPlan) (from to : Device) (load : LoadAnswer) (answers : WorkAnswers) → IsWork plan from to load answers →
     (Rose from.faults to.faults → ⊥) → HasNoFault (work_session plan load answers)
 unrefused plan from to load answers work whole = false_from_ne_true _ (by (work_session plan load answers).refusal refl)
   where
-    by : (o : Option Refusal) → (work_session plan load answers).refusal ≡ o → is_device_fault (option_map_or status_of o Done) ≡ true → ⊥
-    by None is device = false≢true device
-    by (Some refusal) is device =
-        let fault = work_explains plan from to load answers refusal device work is in
-        whole (fault_rose plan.keyed from to fault.fault fault.known.tells)
+    by : (o : Option Refusal) → (work_session plan load answers).refusal ≡ o → is_call_fault (option_map_or status_of o Done) ≡ true → ⊥
+    by None is call = false≢true call
+    by (Some refusal) is call =
+        whole (call_rose plan from to load answers refusal work is call (is_device_fault (status_of refusal)) refl)
 
 -- ---- the saves that were made
 
@@ -70,29 +83,37 @@ unrefused plan from to load answers work whole = false_from_ne_true _ (by (work_
 none_refused : (o : Option CopyFault) (text : List ℕ) (refusal : Option Refusal) (rounds : List Round) →
     HasNoFault (ended_by o text refusal rounds) → o ≡ None
 none_refused None text refusal rounds whole = refl
-none_refused (Some fault) text refusal rounds whole = absurd (both_ways _ whole (fault_device fault))
+none_refused (Some fault) text refusal rounds whole = absurd (both_ways _ whole (fault_call fault))
 
 -- nor was one of a script
 script_unrefused : (end : ScriptEnd) (rounds : List Round) → EndsBy end rounds →
-    is_device_fault (option_map_or status_of (refusal_by_end end (refused_in rounds)) Done) ≡ false → refused_in rounds ≡ None
+    is_call_fault (option_map_or status_of (refusal_by_end end (refused_in rounds)) Done) ≡ false → refused_in rounds ≡ None
 script_unrefused (ends.Done status) rounds ending whole = goes_unrefused rounds ending
 script_unrefused ends.Started rounds ending whole = started_unrefused rounds ending
 script_unrefused ends.StepLimit rounds ending whole = goes_unrefused rounds ending
 script_unrefused ends.Fault rounds ending whole = by (refused_in rounds) whole
   where
-    by : (fault : Option CopyFault) → is_device_fault (option_map_or status_of (option_map copy_refusal fault) Done) ≡ false → fault ≡ None
+    by : (fault : Option CopyFault) → is_call_fault (option_map_or status_of (option_map copy_refusal fault) Done) ≡ false → fault ≡ None
     by None whole = refl
-    by (Some fault) whole = absurd (both_ways _ whole (fault_device fault))
+    by (Some fault) whole = absurd (both_ways _ whole (fault_call fault))
 script_unrefused ends.NoMemory rounds ending whole = ending
 
 acted_saved : (plan : SessionPlan) (found : Option (List ℕ)) (acts : Acts) (answers : WorkAnswers) (rounds : List Round) → answers.rounds ≡ map answer_of rounds →
     AreRoundsOf (start_plans_of plan.work) acts rounds → IsPlayOf acts answers rounds → HasNoFault (session_by_acts plan found acts answers) → AllSaved rounds
 acted_saved plan found (Stops bar) answers rounds is are played whole = subst AllSaved (sym are) tt
+acted_saved plan found Lists answers rounds is are played whole = subst AllSaved (sym are) tt
 acted_saved plan found (Plays script known) answers rounds is are played whole =
     all_saved rounds are.stops
     (script_unrefused played.end rounds played.ending
     (subst HasNoFault
     (plays_session script known answers played.end played.text rounds (plays_to script known answers rounds is played)) whole))
+acted_saved plan found (SavesAround first place second) answers rounds is are played whole =
+    let plans = start_plans_of plan.work in
+    let acts : Acts = SavesAround first place second in
+    all_saved rounds (acts_stop plans acts rounds are)
+    (none_refused (refused_in rounds) (text_unstuck answers.stuck (text_after plan found rounds)) (slot_refusal answers.stuck) rounds
+    (subst (λ (r : List Round). HasNoFault (around_session plan found answers.stuck r)) (rounds_back plans acts answers rounds is are played)
+    whole))
 acted_saved plan found acts answers rounds is are played whole =
     let plans = start_plans_of plan.work in
     all_saved rounds (acts_stop plans acts rounds are)
@@ -103,7 +124,7 @@ module _ {plan : SessionPlan} {from to : Device} {found : Option (List ℕ)} {an
     (work : IsTableWork plan from to (Ok found) answers) where
   pub rounds_saved : HasNoFault (work_session plan (Ok found) answers) → AllSaved work.ran.rounds
   rounds_saved whole =
-      acted_saved plan found (acts_after plan found) answers work.ran.rounds work.ran.answers_are work.ran.are work.ran.played whole
+      acted_saved plan (shown plan.keyed.layout found) (acts_after plan found) answers work.ran.rounds work.ran.answers_are work.ran.are work.ran.played whole
 
 -- each answered Ok
 abbrev pub AllMade : List RoundAnswer → Type 0
@@ -117,11 +138,11 @@ rounds_made (round ∷ later) all =
 
 pub work_made : (plan : SessionPlan) (from to : Device) (load : LoadAnswer) (answers : WorkAnswers) → IsWork plan from to load answers →
     HasNoFault (work_session plan load answers) → AllMade answers.rounds
-work_made plan from to (Err fault) answers work whole = absurd (both_ways _ whole (fault_device fault))
+work_made plan from to (Err fault) answers work whole = absurd (both_ways _ whole (fault_call fault))
 work_made plan from to (Ok found) answers work whole =
     by_work plan from to (Ok found) answers work
     (λ needs done. subst AllMade (sym done.ran.answers_are) (rounds_made done.ran.rounds (rounds_saved done whole)))
-    (λ shows done. subst (λ (a : WorkAnswers). AllMade a.rounds) (sym done.none) refl)
+    (λ reads done. subst (λ (a : WorkAnswers). AllMade a.rounds) (sym done.alone) refl)
 
 -- ---- what a load gives is what the device holds
 
@@ -132,7 +153,7 @@ work_gives plan from to found answers work image held =
     (λ needs done.
     let gave : IsLoadedAs plan.keyed done.used from done.middle found = done.loaded.gives in
     gave.taken ∙ load_found plan.keyed gave.area gave.loaded from done.middle image gave.gave held)
-    (λ shows done. done.looked.told image held)
+    (λ reads done. done.looked.told image held)
 
 -- ---- a copy that is named is one of the three
 
@@ -177,9 +198,10 @@ saved_sound : (table : List ℕ) (refusal : Option CopyFault) → AllSaved (save
 saved_sound table None saved = refl
 saved_sound table (Some fault) saved = absurd (let e : true ≡ false = saved.0 in cc)
 
--- of a work that plays no script
+-- of a work that plays no script, and writes no slot
 abbrev PlaysNone : Acts → Type 0
 PlaysNone (Plays script known) = ⊥
+PlaysNone (SavesAround first place second) = ⊥
 PlaysNone _ = ⊤
 
 sound_rounds : (plans : List (Option StartPlan)) (acts : Acts) (rounds : List Round) → PlaysNone acts → AreRoundsOf plans acts rounds → AllSaved rounds →
@@ -193,6 +215,7 @@ sound_rounds plans (BootsFrom targets table) rounds unplayed are saved calm =
       | inr none ↦ none
     ])
 sound_rounds plans (Plays script known) rounds unplayed are saved calm = absurd unplayed
+sound_rounds plans (SavesAround first place second) rounds unplayed are saved calm = absurd unplayed
 sound_rounds plans _ rounds unplayed are saved calm = sym are
 
 -- ---- a script
@@ -224,32 +247,109 @@ played_same script known answers rounds is are play saved calm memory =
     (plays_session script known (sound_answers (Plays script known)) play.end play.text rounds
     (unfailing_played script known rounds None play.end play.text most_script_rounds played saved unfailed few))
 
-acted_same : (plan : SessionPlan) (found : Option (List ℕ)) (acts : Acts) (answers : WorkAnswers) (rounds : List Round) → answers.rounds ≡ map answer_of rounds →
-    AreRoundsOf (start_plans_of plan.work) acts rounds → IsPlayOf acts answers rounds → AllSaved rounds →
-    (target_started (rounds_for (start_plans_of plan.work) acts (sound_answers acts)) ≡ None) ⊎ NoneFailed rounds →
-    HasMemory (session_by_acts plan found acts answers) → session_by_acts plan found acts answers ≡ session_by_acts plan found acts (sound_answers acts)
-acted_same plan found (Plays script known) answers rounds is are played saved calm memory =
+-- ---- two saves around a slot
+
+-- no call on the slot failed
+stuck_fault : (o : Option CopyFault) (text : List ℕ) (at : ℕ) (rounds : List Round) →
+    HasNoFault (ended_by o text (Some (refusals.SlotFault at)) rounds) → ⊥
+stuck_fault None text at rounds whole = false≢true (sym whole)
+stuck_fault (Some fault) text at rounds whole = both_ways _ whole (fault_call fault)
+
+-- where no call failed none did on the slot
+pub acts_unstuck : (plan : SessionPlan) (found : Option (List ℕ)) (acts : Acts) (answers : WorkAnswers) →
+    HasNoFault (session_by_acts plan found acts answers) → IfSome (place_in acts) (λ place. answers.stuck ≡ None)
+acts_unstuck plan found (SavesAround first place second) answers whole = by answers.stuck whole
+  where
+    by : (stuck : Option ℕ) → HasNoFault (around_session plan found stuck (save_rounds_around first second answers.stuck answers.rounds)) →
+        stuck ≡ None
+    by None whole = refl
+    by (Some at) whole =
+        let rounds = save_rounds_around first second answers.stuck answers.rounds in
+        absurd (stuck_fault (refused_in rounds) [] at rounds whole)
+acts_unstuck plan found _ answers whole = tt
+
+around_sound : (first second : List ℕ) (early late : Option CopyFault) → AllSaved (around_rounds first second early None late) →
+    around_rounds first second early None late ≡ save_round 0 first None ∷ save_round 0 second None ∷ []
+around_sound first second (Some fault) late saved = absurd (let e : true ≡ false = saved.0 in cc)
+around_sound first second None None saved = refl
+around_sound first second None (Some fault) saved = absurd (let e : true ≡ false = saved.1.0 in cc)
+
+around_same : (plan : SessionPlan) (found : Option (List ℕ)) (first second : List ℕ) (stuck : Option ℕ) (rounds : List Round) →
+    IsSavedAround first second stuck rounds → AllSaved rounds → HasNoFault (around_session plan found stuck rounds) →
+    around_session plan found stuck rounds
+    ≡ around_session plan found None (save_round 0 first None ∷ save_round 0 second None ∷ [])
+around_same plan found first second (Some at) rounds are saved whole = absurd (stuck_fault (refused_in rounds) [] at rounds whole)
+around_same plan found first second None rounds are saved whole =
+    ap (λ (r : List Round). around_session plan found None r)
+    (are.is ∙ around_sound first second are.early are.late (subst AllSaved are.is saved))
+
+-- what refuses nothing, with this text
+abbrev pub sound_with : List ℕ → WorkAnswers → WorkAnswers
+sound_with text answers = record answers { listed = text }
+
+acted_same : (plan : SessionPlan) (found : Option (List ℕ)) (acts : Acts) (answers : WorkAnswers) (text : List ℕ) (rounds : List Round) → answers.rounds ≡ map answer_of rounds →
+    AreRoundsOf (start_plans_of plan.work) acts rounds → IsPlayOf acts answers rounds → answers.listed ≡ text → AllSaved rounds →
+    (target_started (rounds_for (start_plans_of plan.work) acts (sound_with text (sound_answers acts))) ≡ None) ⊎ NoneFailed rounds →
+    HasNoFault (session_by_acts plan found acts answers) → HasMemory (session_by_acts plan found acts answers) →
+    session_by_acts plan found acts answers ≡ session_by_acts plan found acts (sound_with text (sound_answers acts))
+acted_same plan found Lists answers text rounds is are played listed saved calm whole memory = ap done_with listed
+acted_same plan found (Plays script known) answers text rounds is are played listed saved calm whole memory =
     played_same script known answers rounds is are played saved calm memory
-acted_same plan found acts answers rounds is are played saved calm memory =
+acted_same plan found (SavesAround first place second) answers text rounds is are played listed saved calm whole memory =
+    let back = rounds_back (start_plans_of plan.work) (SavesAround first place second) answers rounds is are played in
+    ap (λ (r : List Round). around_session plan found answers.stuck r) back
+    ∙ around_same plan found first second answers.stuck rounds played.1 saved
+    (subst (λ (r : List Round). HasNoFault (around_session plan found answers.stuck r)) back whole)
+acted_same plan found acts answers text rounds is are played listed saved calm whole memory =
     let plans = start_plans_of plan.work in
     ap (λ (r : List Round). worked_on plan found acts r)
     (rounds_back plans acts answers rounds is are played ∙ sym (sound_rounds plans acts rounds tt are saved calm))
 
+-- a work on a table lists nothing
+table_listed : (work : Work) (keyed : Keyed) (page : ℕ) (image : Image) → needs_table work ≡ true → [] ≡ listed_by work keyed page image
+table_listed History keyed page image needs = absurd cc
+table_listed _ keyed page image needs = refl
+
+-- and one that only reads what it lists
+look_listed : (work : Work) (keyed : Keyed) (from : Device) (found : Option (List ℕ)) (listed : List ℕ) → needs_table work ≡ false →
+    IsListed work keyed from (Ok found) listed → (image : Image) → content from ≡ Some image → listed ≡ listed_by work keyed from.geometry.page image
+look_listed Show keyed from found listed reads is image held = is
+look_listed History keyed from found listed reads is image held = is image held
+look_listed _ keyed from found listed reads is image held = absurd cc
+
+look_sound : (plan : SessionPlan) (found : Option (List ℕ)) (text : List ℕ) → needs_table plan.work ≡ false →
+    listing text ≡ sound_with text (answers_after plan (Ok found))
+look_sound plan found text reads = by plan.work reads
+  where
+    by : (w : Work) → needs_table w ≡ false → listing text ≡ sound_with text (answers_after (record { keyed = plan.keyed; work = w }) (Ok found))
+    by Show reads = refl
+    by History reads = refl
+    by _ reads = absurd cc
+
+-- what is answered to a plan over what a device holds, where nothing is refused
+abbrev pub sound_over : SessionPlan → ℕ → Image → LoadAnswer → WorkAnswers
+sound_over plan page image load = sound_with (listed_by plan.work plan.keyed page image) (answers_after plan load)
+
 pub work_same : (plan : SessionPlan) (from to : Device) (found : Option (List ℕ)) (answers : WorkAnswers) → IsWork plan from to (Ok found) answers →
     HasNoFault (work_session plan (Ok found) answers) → HasMemory (work_session plan (Ok found) answers) →
-    IsCalm from to (work_session plan (Ok found) (answers_after plan (Ok found))) →
-    work_session plan (Ok found) answers ≡ work_session plan (Ok found) (answers_after plan (Ok found))
-work_same plan from to found answers work whole memory calm =
+    (image : Image) → content from ≡ Some image →
+    IsCalm from to (work_session plan (Ok found) (sound_over plan from.geometry.page image (Ok found))) →
+    work_session plan (Ok found) answers ≡ work_session plan (Ok found) (sound_over plan from.geometry.page image (Ok found))
+work_same plan from to found answers work whole memory image held calm =
+    let text = listed_by plan.work plan.keyed from.geometry.page image in
     by_work plan from to (Ok found) answers work
     (λ needs done.
-    acted_same plan found (acts_after plan found) answers done.ran.rounds done.ran.answers_are done.ran.are done.ran.played
+    acted_same plan (shown plan.keyed.layout found) (acts_after plan found) answers text done.ran.rounds done.ran.answers_are done.ran.are done.ran.played
+    (done.ran.listed ∙ table_listed plan.work plan.keyed from.geometry.page image needs)
     (rounds_saved done whole)
     (elim calm [
-      | inl unstarted ↦ inl (sym (ap target_started (session_after plan found (answers_after plan (Ok found)))) ∙ unstarted)
+      | inl unstarted ↦
+          inl (sym (ap target_started (session_after plan found (sound_over plan from.geometry.page image (Ok found)))) ∙ unstarted)
       | inr none ↦
           inr (none_failed done.ran.rounds done.middle.start_faults to.start_faults (ran_of done).start_faults
           (λ r. none (subst (λ k. Rose k to.start_faults) done.loaded.starts.start_faults r)))
-    ]) memory)
-    (λ shows done.
+    ]) whole memory)
+    (λ reads done.
     ap (work_session plan (Ok found))
-    (done.none ∙ sym (ap (λ (w : Work). answers_after (record { keyed = plan.keyed; work = w }) (Ok found)) shows)))
+    (done.alone ∙ ap listing (look_listed plan.work plan.keyed from found answers.listed reads done.listed image held)
+    ∙ look_sound plan found text reads))

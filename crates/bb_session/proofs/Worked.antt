@@ -1,5 +1,5 @@
 -- The ways in which the work of a plan ends.
-use Rattle.std.proofs.Common.{◌≡◌, ℕ, Bool, true, false, List, [], ◌++◌, length, take, Vec, Global, Some, None, Result, Ok, Err, option_map, arith, refl, sym, ap, subst, inl, inr}
+use Rattle.std.proofs.Common.{◌≡◌, ℕ, Bool, true, false, List, [], ◌++◌, length, take, Vec, Global, Option, Some, None, Result, Ok, Err, if◌then◌else◌, option_map, arith, refl, sym, ap, subst, inl, inr}
 use Rattle.std.specs.Bool.{then_some}
 use Rattle.std.specs.Option.{ForSome}
 use Rattle.std.specs.Result.{IsErrAnd}
@@ -16,10 +16,12 @@ use Rattle.bb_session.specs.Looking.{first_found, look_text, passed_in}
 use Rattle.bb_plan.specs.declared.plan.Work.TheVariants.{Show}
 use Rattle.bb_plan.specs.declared.plan.Work.{Work}
 use Rattle.bb_session.specs.Doing.{EndsWith, IsTold}
-use Rattle.bb_session.specs.Session.{LoadAnswer, work_session}
+use Rattle.bb_session.specs.Session.{LoadAnswer, shown, work_session}
 use Rattle.bb_session.specs.Work.{IsWork, IsWorkedOut}
 use Rattle.bb_plan.specs.declared.refusal.Refusal.{Refusal}
 use Rattle.bb_session.specs.declared.report.Report.{Report}
+use Rattle.bb_layout.specs.Convert.{convert}
+use Rattle.bb_layout.specs.Layout.{Laid}
 use Rattle.bb_session.proofs.Kept.{found_first, found_none}
 
 -- a report of this text alone
@@ -56,23 +58,40 @@ refused_by (Err r) e is = ap (λ r. Err r) is
 -- ---- a look
 
 -- it found what the device holds
-pub look_told : (keyed : Keyed) (area : List ℕ) (found : Bool) (from : Device) → LookGives (laid_form keyed) (laid_kinds keyed.layout) area from found →
-    ForSome (content from) (λ image. then_some found area ≡ first_found (passed_in keyed from.geometry.page image))
-look_told keyed area true from gives = λ image told.
+pub look_told : (keyed : Keyed) (stored : List ℕ) (found : Bool) (from : Device) →
+    LookGives (laid_form keyed) (laid_kinds keyed.layout) from (then_some found stored) →
+    ForSome (content from) (λ image. then_some found stored ≡ first_found (passed_in keyed from.geometry.page image))
+look_told keyed stored true from gives = λ image told.
     let first = gives image told in
-    found_first [] area (passed_in keyed from.geometry.page image) first.some (first.first [])
-look_told keyed area false from gives = λ image told. found_none (passed_in keyed from.geometry.page image) (gives image told)
+    found_first [] stored (passed_in keyed from.geometry.page image) first.some (first.first [])
+look_told keyed stored false from gives = λ image told. found_none (passed_in keyed from.geometry.page image) (gives image told)
+
+-- a choice between an area and none, as a look makes it
+pub as_then : (P : Option (List ℕ) → Type 0) (area : List ℕ) (found : Bool) → P (if found then Some area else None) → P (then_some found area)
+as_then P area true is = is
+as_then P area false is = is
+
+-- what it shows
+shows_area : (layout : Laid) (stored area : List ℕ) (found : Bool) → (found ≡ true → area ≡ convert layout stored) →
+    shown layout (then_some found stored) ≡ then_some found area
+shows_area layout stored area true is = ap (λ l. Some l) (sym (is refl))
+shows_area layout stored area false is = refl
 
 -- it answered Ok
-pub looked_ok : (keyed : Keyed) (area : List ℕ) (found : Bool) (from to : Device) (given : Result Report Refusal) →
-    LookGives (laid_form keyed) (laid_kinds keyed.layout) area from found → to.faults ≡ from.faults → to.read_faults ≡ from.read_faults →
+pub looked_ok : (keyed : Keyed) (stored area : List ℕ) (found : Bool) (from to : Device) (given : Result Report Refusal) →
+    LookGives (laid_form keyed) (laid_kinds keyed.layout) from (then_some found stored) → (found ≡ true → area ≡ convert keyed.layout stored) →
+    to.faults ≡ from.faults → to.read_faults ≡ from.read_faults →
     IsQuiet from to → IsTold (look_text (then_some found area)) given → IsWorkedOut keyed Show from to given
-looked_ok keyed area found from to given gives faults read_faults quiet is =
-    worked_out keyed Show from to (Ok (then_some found area)) no_answers given
+looked_ok keyed stored area found from to given gives shows faults read_faults quiet is =
+    let text = ap look_text (shows_area keyed.layout stored area found shows) in
+    worked_out keyed Show from to (Ok (then_some found stored)) no_answers given
     (record {
-      looked = record { told = look_told keyed area found from gives; fails = tt; faults = faults; read_faults = read_faults; quiet = quiet };
-      none = refl;
-    }) (text_ends (look_text (then_some found area)) [] given is)
+      looked = record { told = look_told keyed stored found from gives; fails = tt; faults = faults; read_faults = read_faults; quiet = quiet };
+      alone = refl;
+      listed = refl;
+    })
+    (text_ends (look_text (shown keyed.layout (then_some found stored))) [] given
+    (subst (λ t. IsTold t given) (sym text) is))
 
 -- ---- a vector that was filled anew
 

@@ -7,7 +7,6 @@ use Rattle.bb_bucket.specs.Calls.{IsQuiet}
 use Rattle.bb_copies.proofs.Calls.{reads_untouched}
 use Rattle.bb_copies.proofs.Erased.{read_changes}
 use Rattle.bb_copies.specs.Chronicle.{Content, IsStanding, Looked, Turn, Unloaded}
-use Rattle.bb_copies.specs.Loading.{KeepsOutside}
 use Rattle.bb_copies.specs.Luck.{IsLucky}
 use Rattle.bb_copies.specs.StandsFor.{picked}
 use Rattle.bb_flash.specs.Counted.{Counts}
@@ -16,14 +15,16 @@ use Rattle.bb_state.specs.Keyed.{Keyed}
 use Rattle.bb_state.specs.Kinds.{laid_kinds}
 use Rattle.bb_shell.specs.Boot.{Round}
 use Rattle.bb_shell.specs.Counting.{turn_of_rounds}
-use Rattle.bb_shell.proofs.Joins.{outside_joined, still_outside}
-use Rattle.bb_plan.specs.Plan.{SessionPlan, first_area}
-use Rattle.bb_plan.specs.declared.plan.Work.{Work}
-use Rattle.bb_session.specs.Acting.{WorkAnswers, kept_before, needs_table, saves_always, start_plans_of}
+use Rattle.bb_shell.proofs.Joins.{still_outside}
+use Rattle.bb_plan.specs.Plan.{SessionPlan}
+use Rattle.bb_shell.specs.Stages.{first_area}
+use Rattle.bb_session.specs.Acting.{WorkAnswers, kept_before, saves_always, start_plans_of}
 use Rattle.bb_session.specs.Looking.{passed_in}
 use Rattle.bb_session.specs.Session.{LoadAnswer, loaded_area}
 use Rattle.bb_session.specs.SessionTurns.{HasTrail, HasTrails, IsFairRun, LeadsOn, LeadsTo, table_turn, turn_of}
 use Rattle.bb_session.specs.Work.{IsTableWork, IsWork}
+use Rattle.bb_session.specs.Around.{KeepsOutsideBoth, slot_of_work}
+use Rattle.bb_session.proofs.Around.{both_joined, outside_both}
 use Rattle.bb_session.proofs.Acted.{by_work, ran_of, session_rounds}
 use Rattle.bb_session.proofs.Kept.{kept_has}
 use Rattle.bb_session.proofs.Turns.{Stays, counts_now, load_stays, order, standing_at, stays_leads, stays_trail, work_leads, work_trail}
@@ -32,7 +33,7 @@ use Rattle.bb_session.proofs.Turns.{Stays, counts_now, load_stays, order, standi
 record IsTurned (keyed : Keyed) (page : ℕ) (from to : Device) (turn : List (Option ℕ) → Turn)
     (first last : Told) (before : Content) : Type 0 where
   leads : IsFairRun keyed page first last →
-      LeadsTo (first_area keyed.layout) before (turn before.marks) (passed_in keyed page last.image)
+      LeadsTo first_area before (turn before.marks) (passed_in keyed page last.image)
   trail : HasTrail keyed page from to first last before (turn before.marks)
 
 -- of each content at entry, on a device with pages of this size
@@ -42,7 +43,7 @@ TurnedAt page keyed from to turn =
     (λ first.
     ForSome to.told
     (λ last.
-    (before : Content) → before.passed ≡ passed_in keyed page first.image → IsStanding (first_area keyed.layout) before →
+    (before : Content) → before.passed ≡ passed_in keyed page first.image → IsStanding first_area before →
     IsTurned keyed page from to turn first last before))
 
 abbrev Turned : Keyed → Device → Device → (List (Option ℕ) → Turn) → Type 0
@@ -94,19 +95,21 @@ table_turned plan from to (Ok found) answers work =
     record {
       leads =
           work_leads keyed from work.middle first there.0 e there.1 before work.geometry here stands load.images load.later to last f
-          did.later work.used found load.gives (start_plans_of plan.work) kept of_table run.rounds run.now did;
+          did.later work.used found load.gives (start_plans_of plan.work) (slot_of_work plan.work) kept of_table run.rounds run.now did;
       trail =
           work_trail keyed from work.middle first there.0 e there.1 before work.geometry here stands load.images load.later to last f
-          did.later work.used found load.gives (start_plans_of plan.work) kept of_table run.rounds run.now did load;
+          did.later work.used found load.gives (start_plans_of plan.work) (slot_of_work plan.work) kept of_table run.rounds run.now did load;
     }))
 
 table_outside : (plan : SessionPlan) (from to : Device) (load : LoadAnswer) (answers : WorkAnswers) →
-    IsTableWork plan from to load answers → KeepsOutside (laid_kinds plan.keyed.layout) from to
+    IsTableWork plan from to load answers → KeepsOutsideBoth (laid_kinds plan.keyed.layout) (slot_of_work plan.work) from to
 table_outside plan from to (Ok found) answers work =
     let did = ran_of work in
-    outside_joined (laid_kinds plan.keyed.layout) from work.middle to work.loaded.later did.later work.loaded.outside did.outside
+    both_joined (laid_kinds plan.keyed.layout) (slot_of_work plan.work) from work.middle to work.loaded.later did.later
+    (outside_both (laid_kinds plan.keyed.layout) (slot_of_work plan.work) from work.middle work.loaded.outside) did.outside
 table_outside plan from to (Err fault) answers work =
-    subst (λ d. KeepsOutside (laid_kinds plan.keyed.layout) from d) (sym work.ran.1) work.loaded.outside
+    subst (λ (d : Device). KeepsOutsideBoth (laid_kinds plan.keyed.layout) (slot_of_work plan.work) from d) (sym work.ran.1)
+    (outside_both (laid_kinds plan.keyed.layout) (slot_of_work plan.work) from work.middle work.loaded.outside)
 
 module _ (plan : SessionPlan) (from to : Device) (load : LoadAnswer) (answers : WorkAnswers)
     (work : IsWork plan from to load answers) where
@@ -116,8 +119,8 @@ module _ (plan : SessionPlan) (from to : Device) (load : LoadAnswer) (answers : 
       (λ needs done.
       subst (λ n. Turned plan.keyed from to (λ marks. if n then table_turn plan load answers marks else Looked)) (sym needs)
       (table_turned plan from to load answers done))
-      (λ shows done.
-      subst (λ (w : Work). Turned plan.keyed from to (λ marks. if needs_table w then table_turn plan load answers marks else Looked)) (sym shows)
+      (λ reads done.
+      subst (λ n. Turned plan.keyed from to (λ marks. if n then table_turn plan load answers marks else Looked)) (sym reads)
       (look_turned plan.keyed from to done.looked.quiet))
 
   pub leads_on : LeadsOn plan from to load answers
@@ -126,11 +129,12 @@ module _ (plan : SessionPlan) (from to : Device) (load : LoadAnswer) (answers : 
   pub has_trails : HasTrails plan from to load answers
   has_trails = λ first e last f before is stands. (work_turned first e last f before is stands).trail
 
-  -- outside of the copies the device stays
-  pub keeps_outside : KeepsOutside (laid_kinds plan.keyed.layout) from to
+  -- outside of the copies and of the slot the device stays
+  pub keeps_outside : KeepsOutsideBoth (laid_kinds plan.keyed.layout) (slot_of_work plan.work) from to
   keeps_outside =
       by_work plan from to load answers work
       (λ needs done. table_outside plan from to load answers done)
-      (λ shows done.
-      still_outside (laid_kinds plan.keyed.layout) from to (keeps_of_quiet from to done.looked.quiet).content
-      (read_changes from to done.looked.quiet.told))
+      (λ reads done.
+      outside_both (laid_kinds plan.keyed.layout) (slot_of_work plan.work) from to
+      (still_outside (laid_kinds plan.keyed.layout) from to (keeps_of_quiet from to done.looked.quiet).content
+      (read_changes from to done.looked.quiet.told)))

@@ -2,19 +2,25 @@
 -- made of the device, and what it gave.
 use Rattle.std.specs.Prelude.{◌≡◌, ◌⊎◌, ℕ, Bool, true, false, List, [], Option, Some, None, Result, Ok, Err, IsOk}
 use Rattle.bb_actions.specs.Actions.{actions_text}
+use Rattle.bb_chooser.specs.Binding.{Binding}
 use Rattle.bb_copies.specs.declared.answers.CopyFault.{CopyFault}
 use Rattle.bb_flash.specs.Device.{Device}
+use Rattle.bb_flash.specs.declared.geometry.Geometry.{Geometry}
 use Rattle.bb_layout.specs.Layout.{Laid}
 use Rattle.bb_state.specs.Keyed.{Keyed}
 use Rattle.bb_state.specs.State.{IsOn, is_sure, last_table_of}
 use Rattle.bb_state.specs.declared.state.State.{State}
 use Rattle.bb_shell.specs.Running.{IsSaveRun}
+use Rattle.bb_install.specs.declared.install_end.InstallEnd.{InstallEnd}
+use Rattle.bb_install.specs.declared.install_end.InstallEnd.TheVariants as ends
+use Rattle.bb_plan.specs.declared.plan.SlotImage.{SlotImage}
 use Rattle.bb_plan.specs.declared.plan.Work.{Work}
-use Rattle.bb_plan.specs.declared.plan.Work.TheVariants.{Act, Good, Write}
+use Rattle.bb_plan.specs.declared.plan.Work.TheVariants.{Act, Good, Install, Write}
 use Rattle.bb_plan.specs.Refusal.{copy_refusal}
-use Rattle.bb_session.specs.Acting.{Acts, SavesOnce, WorkAnswers, refusal_by_table}
+use Rattle.bb_session.specs.Acting.{Acts, SavesOnce, WorkAnswers, acts_of, refusal_by_table}
+use Rattle.bb_session.specs.Installing.{installed_name, installed_text}
 use Rattle.bb_session.specs.Marking.{good_text}
-use Rattle.bb_session.specs.Session.{Session, work_session}
+use Rattle.bb_session.specs.Session.{Session, session_by_acts}
 use Rattle.bb_session.specs.Work.{Gives, IsRunAfter, SendsByMemory}
 use Rattle.bb_plan.specs.declared.refusal.Refusal.{Refusal}
 use Rattle.bb_plan.specs.declared.refusal.Refusal.TheVariants as refusals
@@ -29,7 +35,8 @@ pub record IsAtHand (state : State) (device : Device) : Type 0 where
 -- its session after a load of this table
 abbrev pub session_on : Keyed → Work → List ℕ → WorkAnswers → Session
 session_on keyed work table answers =
-    work_session (record { keyed = keyed; work = work }) (Ok (Some table)) answers
+    session_by_acts (record { keyed = keyed; work = work }) (Some table)
+    (acts_of keyed.layout work table) answers
 
 -- a session was given, or memory was refused for what was to be sent of it
 abbrev pub EndsWith : Session → Result Report Refusal → Type 0
@@ -47,6 +54,22 @@ pub record IsDone (keyed : Keyed) (used : Option ℕ) (table : List ℕ) (work :
   pub answers : WorkAnswers
   pub ran : IsRunAfter keyed work table used from to answers
   pub ends : EndsWith (session_on keyed work table answers) given
+
+-- how long a page is that a work needs memory for, before its first call of the device
+abbrev pub page_len : Geometry → Work → ℕ
+page_len geometry (Install targets target place) = geometry.page
+page_len geometry _ = 0
+
+-- ---- an install
+
+-- what is given of its end, unless memory was refused for it
+abbrev pub IsEndTold : Binding → ℕ → SlotImage → InstallEnd → Result Report Refusal → Type 0
+IsEndTold targets target place ends.Done given = IsTold (installed_text targets target place) given
+IsEndTold targets target place ends.LastTarget given =
+    (given ≡ Err (refusals.LastTarget (installed_name targets target)))
+    ⊎ (given ≡ Err refusals.NoMemory)
+IsEndTold targets target place (ends.SlotFault at) given = given ≡ Err (refusals.SlotFault at)
+IsEndTold targets target place (ends.Fault fault) given = given ≡ Err (copy_refusal fault)
 
 -- ---- one save
 

@@ -1,21 +1,26 @@
--- What a session leaves of the copies where no call of the device failed: each to the byte, by what
--- stood there at entry. And how often it erased each block for that.
-use Rattle.std.specs.Prelude.{◌≡◌, ◌==◌, ℕ, ◌+◌, ◌/◌, ◌&&◌, Bool, false, not, List, [], ◌∷◌, ◌++◌, All, Option, Some, None, Result, Ok, Err, option_and_then, slice_get, sum_by, if◌then◌else◌}
-use Rattle.std.specs.Option.{ForSome, option_map_or}
+-- What a session leaves of the copies and of its slot where no call of the device failed: each to
+-- the byte, by what stood there at entry. And how often it erased each block for that.
+use Rattle.std.specs.Prelude.{◌≡◌, ◌==◌, ℕ, ◌+◌, ◌-◌, ◌/◌, ◌<◌, ◌&&◌, length, nat_le, nat_lt, Bool, false, not, List, [], ◌∷◌, ◌++◌, All, Option, Some, None, Result, Ok, Err, option_and_then, slice_get, sum_by, if◌then◌else◌}
+use Rattle.std.specs.Option.{ForSome, IfSome, option_map_or}
 use Rattle.std.specs.Str.{bytes_eq}
 use Rattle.bb_base.specs.Form.{Form}
+use Rattle.bb_bucket.specs.Blocks.{filled_len}
+use Rattle.bb_bucket.specs.Calls.{told_but_reads}
 use Rattle.bb_bucket.specs.Kind.{BucketKind, part_of}
 use Rattle.bb_copies.specs.Buckets.{EachCopy}
 use Rattle.bb_flash.specs.declared.geometry.Geometry.{Geometry}
-use Rattle.bb_flash.specs.Device.{Device, Told, content, moment}
-use Rattle.bb_flash.specs.Image.{Image}
+use Rattle.bb_flash.specs.Device.{Device, LeavesStarts, Told, content, moment}
+use Rattle.bb_flash.specs.Image.{Image, IsBlank}
+use Rattle.bb_install.specs.Holding.{SlotHolds}
+use Rattle.bb_install.specs.Ranges.{slot_ranges}
 use Rattle.bb_state.specs.Keyed.{Keyed}
 use Rattle.bb_state.specs.Kinds.{laid_form, laid_kinds}
 use Rattle.bb_session.specs.Looking.{first_found, passed_in}
 use Rattle.bb_shell.specs.Stages.{saves_of}
-use Rattle.bb_plan.specs.Plan.{EarlyEnd, SessionPlan}
-use Rattle.bb_session.specs.Acting.{WorkAnswers, kept_before, taken_by}
-use Rattle.bb_session.specs.Session.{loaded_area, work_session}
+use Rattle.bb_plan.specs.Plan.{Compared, Drilled, EarlyEnd, Printed, Refused, SessionPlan}
+use Rattle.bb_plan.specs.declared.plan.SlotImage.{SlotImage}
+use Rattle.bb_session.specs.Acting.{WorkAnswers, kept_before, place_in, taken_by}
+use Rattle.bb_session.specs.Session.{acts_after, loaded_area, work_session}
 
 -- ---- the region of one copy
 
@@ -144,10 +149,21 @@ EachContent plan from to P =
     ForSome (content to)
     (λ after. P (first_found (passed_in plan.keyed from.geometry.page before)) before after))
 
--- at exit each copy is exactly what the load and the saves of the plan make of it; a plan that was
--- refused leaves the device
+-- nothing but reads was done: they change no content, no number of erases, and no count of starts
+pub record OnlyReads (from to : Device) : Type 0 where
+  pub told : told_but_reads to ≡ told_but_reads from
+  pub starts : LeavesStarts from to
+
+-- a session without a work on copies leaves the device; a comparison only reads it
+abbrev pub LeavesAll : EarlyEnd → Device → Device → Type 0
+LeavesAll (Printed text) from to = to ≡ from
+LeavesAll (Drilled numbers) from to = to ≡ from
+LeavesAll (Compared place) from to = OnlyReads from to
+LeavesAll (Refused refusal) from to = to ≡ from
+
+-- at exit each copy is exactly what the load and the saves of the plan make of it
 abbrev pub LeavesExactly : Result SessionPlan EarlyEnd → WorkAnswers → Device → Device → Type 0
-LeavesExactly (Err end) answers from to = to ≡ from
+LeavesExactly (Err end) answers from to = LeavesAll end from to
 LeavesExactly (Ok plan) answers from to =
     EachContent plan from to
     (λ found before after.
@@ -156,7 +172,7 @@ LeavesExactly (Ok plan) answers from to =
 
 -- at exit every copy passes the area that was loaded or saved last
 abbrev pub EndsAlike : Result SessionPlan EarlyEnd → WorkAnswers → Device → Device → Type 0
-EndsAlike (Err end) answers from to = to ≡ from
+EndsAlike (Err end) answers from to = LeavesAll end from to
 EndsAlike (Ok plan) answers from to =
     EachContent plan from to
     (λ found before after.
@@ -173,9 +189,44 @@ EachTold plan from to P =
     (λ last.
     P (first_found (passed_in plan.keyed from.geometry.page first.image)) first last))
 
--- at exit the number of each block is higher by exactly as many as the writes of the plan erase it
+-- ---- the slot
+
+-- the slot that a plan writes after a load that found this, and its image
+abbrev pub place_after : SessionPlan → Option (List ℕ) → Option SlotImage
+place_after plan found = place_in (acts_after plan found)
+
+-- how often its calls erase a block: each of the slot's blocks once
+abbrev pub slot_erases : Geometry → Option SlotImage → ℕ → ℕ
+slot_erases geometry None block = 0
+slot_erases geometry (Some place) block =
+    let first = place.slot.at / geometry.block in
+    if nat_le first block && nat_lt block (first + place.slot.size / geometry.block) then 1 else 0
+
+-- how many calls they are
+abbrev pub slot_calls : Geometry → Option SlotImage → ℕ
+slot_calls geometry None = 0
+slot_calls geometry (Some place) = length (slot_ranges geometry place.slot (length place.image))
+
+-- a slot holds its image, and on a device with blocks it is blank after the image's last page
+pub record HoldsImage (geometry : Geometry) (place : SlotImage) (image : Image) : Type 0 where
+  pub holds : SlotHolds geometry.page place.slot place.image image
+  pub blank :
+      0 < geometry.block →
+      let len = filled_len geometry.page (length place.image) in
+      IsBlank geometry.page image (place.slot.at + len) (place.slot.size - len)
+
+-- at exit the slot that the plan writes holds its image, and nothing else
+abbrev pub HoldsInSlot : Result SessionPlan EarlyEnd → WorkAnswers → Device → Device → Type 0
+HoldsInSlot (Err end) answers from to = LeavesAll end from to
+HoldsInSlot (Ok plan) answers from to =
+    EachContent plan from to
+    (λ found before after.
+    IfSome (place_after plan found) (λ place. HoldsImage from.geometry place after))
+
+-- at exit the number of each block is higher by exactly as many as the writes of the plan and the
+-- calls on its slot erase it
 abbrev pub ErasesExactly : Result SessionPlan EarlyEnd → WorkAnswers → Device → Device → Type 0
-ErasesExactly (Err end) answers from to = to ≡ from
+ErasesExactly (Err end) answers from to = LeavesAll end from to
 ErasesExactly (Ok plan) answers from to =
     EachTold plan from to
     (λ found first last.
@@ -183,18 +234,21 @@ ErasesExactly (Ok plan) answers from to =
     slice_get last.erases block
     ≡ Some
     (n
-    + sum_of_writes (erases_in (laid_form plan.keyed) from.geometry block)
+    + (sum_of_writes (erases_in (laid_form plan.keyed) from.geometry block)
     (writes_of_work plan found answers) (laid_kinds plan.keyed.layout)
-    from.geometry.page first.image))
+    from.geometry.page first.image
+    + slot_erases from.geometry (place_after plan found) block)))
 
--- at exit exactly so many calls changed the device as the writes of the plan make
+-- at exit exactly so many calls changed the device as the writes of the plan make, and the calls on
+-- its slot are
 abbrev pub CallsExactly : Result SessionPlan EarlyEnd → WorkAnswers → Device → Device → Type 0
-CallsExactly (Err end) answers from to = to ≡ from
+CallsExactly (Err end) answers from to = LeavesAll end from to
 CallsExactly (Ok plan) answers from to =
     EachTold plan from to
     (λ found first last.
     moment last
     ≡ moment first
-    + sum_of_writes (calls_in (laid_form plan.keyed))
+    + (sum_of_writes (calls_in (laid_form plan.keyed))
     (writes_of_work plan found answers) (laid_kinds plan.keyed.layout)
-    from.geometry.page first.image)
+    from.geometry.page first.image
+    + slot_calls from.geometry (place_after plan found)))

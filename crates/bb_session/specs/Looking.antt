@@ -1,8 +1,11 @@
--- What the copies of a layout pass as, and the first that passes.
+-- What the copies of a layout pass as, the first that passes, and what they still hold.
 use Rattle.std.specs.Prelude.{ℕ, List, [], ◌∷◌, ◌++◌, codes, Option, Some, None}
 use Rattle.hex.specs.Hex.{encode_lower}
 use Rattle.bb_copies.specs.Passing.{passings}
 use Rattle.bb_flash.specs.Image.{Image}
+use Rattle.bb_history.specs.History.{history_text}
+use Rattle.bb_plan.specs.declared.plan.Work.{Work}
+use Rattle.bb_plan.specs.declared.plan.Work.TheVariants.{History}
 use Rattle.bb_state.specs.Keyed.{Keyed}
 use Rattle.bb_state.specs.Kinds.{laid_form, laid_kinds}
 
@@ -21,3 +24,8 @@ first_found (Some area ∷ passed) = Some area
 abbrev pub look_text : Option (List ℕ) → List ℕ
 look_text (Some area) = encode_lower area ++ codes "\n"
 look_text None = codes "none\n"
+
+-- the text that a work lists: a history that of all copies, and every other work nothing
+abbrev pub listed_by : Work → Keyed → ℕ → Image → List ℕ
+listed_by History keyed page image = history_text keyed page image
+listed_by _ keyed page image = []

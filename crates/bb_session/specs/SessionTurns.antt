@@ -9,12 +9,13 @@ use Rattle.bb_copies.specs.Trail.{IsTrail, Milestone, milestone_of, session_trai
 use Rattle.bb_flash.specs.Counted.{Counts, IsFair}
 use Rattle.bb_flash.specs.Device.{Device, Told, moment}
 use Rattle.bb_flash.specs.Image.{Image}
+use Rattle.bb_layout.specs.Family.{SameFamily}
 use Rattle.bb_state.specs.Blank.{IsErased}
 use Rattle.bb_state.specs.Keyed.{Keyed}
 use Rattle.bb_session.specs.Looking.{passed_in}
 use Rattle.bb_shell.specs.Counting.{turn_of_rounds}
-use Rattle.bb_shell.specs.Stages.{AreAnswered}
-use Rattle.bb_plan.specs.Plan.{first_area, SessionPlan}
+use Rattle.bb_shell.specs.Stages.{AreAnswered, first_area}
+use Rattle.bb_plan.specs.Plan.{SessionPlan}
 use Rattle.bb_session.specs.Acting.{WorkAnswers, kept_before, needs_table}
 use Rattle.bb_session.specs.Session.{LoadAnswer, loaded_area, work_session}
 use Rattle.bb_session.specs.Work.{IsLoaded}
@@ -23,15 +24,24 @@ use Rattle.bb_session.specs.Work.{IsLoaded}
 pub record HoldsNoArea (keyed : Keyed) (page : ℕ) (image : Image) : Type 0 where
   -- no copy passes anything
   pub passes : All (λ area. area ≡ None) (passed_in keyed page image)
-  -- they stand for the first area alone
+  -- they stand for the empty area alone
   pub stands :
-      Stands (first_area keyed.layout) (passed_in keyed page image) (first_area keyed.layout ∷ []) 0
+      Stands first_area (passed_in keyed page image) (first_area ∷ []) 0
 
 -- so it is on a device that holds 0xFF alone, in pages of any health, for every layout, key and
 -- format
 abbrev pub BlankLaw : Type 0
 BlankLaw =
     (keyed : Keyed) (page : ℕ) (image : Image) → IsErased image → HoldsNoArea keyed page image
+
+-- Layouts of one family, under one key, see the same in every image: what one session's copies
+-- stand for the next one's do, under whichever of the layouts it runs.
+abbrev pub FamilyLaw : Type 0
+FamilyLaw =
+    (one other : Keyed) (page : ℕ) (image : Image) →
+    SameFamily one.layout other.layout →
+    one.key ≡ other.key →
+    passed_in one page image ≡ passed_in other page image
 
 -- ---- the turn of a session
 
@@ -67,7 +77,7 @@ pub record LeadsTo (first : List ℕ) (before : Content) (turn : Turn)
 -- each image that counts since a milestone's moment stands for its stage, or for a later one
 abbrev pub IsTrailOf : Keyed → ℕ → Told → List Milestone → Type 0
 IsTrailOf keyed page last milestones =
-    IsTrail (IsCounted keyed page last) (moment last) (first_area keyed.layout) milestones
+    IsTrail (IsCounted keyed page last) (moment last) first_area milestones
 
 -- where no load answered Ok, each image since entry stands for the list at entry
 abbrev pub HasEntryTrail : Keyed → ℕ → Told → Told → Content → Type 0
@@ -115,7 +125,7 @@ EachStanding keyed from to P =
     (λ last.
     (before : Content) →
     before.passed ≡ passed_in keyed from.geometry.page first.image →
-    IsStanding (first_area keyed.layout) before →
+    IsStanding first_area before →
     P first last before))
 
 -- no call that failed left a copy that passes by luck
@@ -129,7 +139,7 @@ LeadsOn plan from to load answers =
     EachStanding plan.keyed from to
     (λ first last before.
     IsFairRun plan.keyed from.geometry.page first last →
-    LeadsTo (first_area plan.keyed.layout) before (turn_of plan load answers before.marks)
+    LeadsTo first_area before (turn_of plan load answers before.marks)
     (passed_in plan.keyed from.geometry.page last.image))
 
 -- each image on the way that counts stands for the stage that it reached, or for a later one

@@ -1,10 +1,10 @@
 -- The work of a session on the copies of a layout: what was answered, and what became of the
 -- device.
 use Rattle.std.specs.Prelude.{◌≡◌, ◌≢◌, ◌⊎◌, ℕ, ◌≤◌, List, [], map, ⊤, true, MatchBool, Option, Some, None, Result, Ok, Err, IfOk, IfErr, is_err}
-use Rattle.std.specs.Option.{ForSome}
+use Rattle.std.specs.Option.{ForSome, IfSome}
 use Rattle.bb_base.specs.Faults.{counted}
 use Rattle.bb_bucket.specs.Calls.{IsQuiet}
-use Rattle.bb_copies.specs.Loading.{KeepsOutside, LoadGives, LoadImages, LoadsErasing, LoadsExactly}
+use Rattle.bb_copies.specs.Loading.{KeepsOutside, LoadGives, LoadImages, LoadSays, LoadsErasing, LoadsExactly}
 use Rattle.bb_copies.specs.Store.{used_after}
 use Rattle.bb_copies.specs.declared.answers.CopyFault.TheVariants.{ReadFault}
 use Rattle.bb_copies.specs.declared.answers.Loaded.{Loaded}
@@ -12,6 +12,7 @@ use Rattle.bb_copies.specs.declared.answers.Loaded.TheVariants.{Copy, NoCopy}
 use Rattle.bb_flash.specs.Cuts.{IsLater}
 use Rattle.bb_chooser.specs.Binding.{Binding}
 use Rattle.bb_flash.specs.Device.{Device, LeavesStarts, content}
+use Rattle.bb_history.specs.History.{AddsFront}
 use Rattle.bb_state.specs.Keyed.{Keyed}
 use Rattle.bb_shell.specs.Boot.{Round}
 use Rattle.bb_script.specs.Tree.{ScriptTree}
@@ -21,15 +22,17 @@ use Rattle.bb_script_commands.specs.Held.{Known}
 use Rattle.bb_script_commands.specs.Playing.{IsPlayed}
 use Rattle.bb_script_commands.specs.Scripts.{EndsBy}
 use Rattle.bb_shell.specs.Rounds.{answer_of}
-use Rattle.bb_shell.specs.Running.{AreRun}
 use Rattle.bb_state.specs.Kinds.{laid_form, laid_kinds}
-use Rattle.bb_state.specs.State.{IsDefault, IsRefused}
-use Rattle.bb_session.specs.Acting.{Acts, AreRoundsOf, Plays, WorkAnswers, acts_of, kept_before, needs_table, no_answers, start_plans_of}
-use Rattle.bb_session.specs.Looking.{first_found, passed_in}
+use Rattle.bb_state.specs.State.{IsRefused}
+use Rattle.bb_session.specs.Acting.{Acts, AreRoundsOf, IsSavedAround, Plays, SavesAround, WorkAnswers, acts_of, kept_before, listing, needs_table, no_answers, place_in, start_plans_of}
+use Rattle.bb_session.specs.Around.{AreRunAround, slot_of_work}
+use Rattle.bb_session.specs.Looking.{first_found, listed_by, passed_in}
 use Rattle.bb_shell.specs.declared.boot_end.BootEnd.{BootEnd}
 use Rattle.bb_session.specs.Booting.{end_refusal, end_text}
+use Rattle.bb_install.specs.Beside.{IsBesideCopies}
 use Rattle.bb_plan.specs.Plan.{SessionPlan}
 use Rattle.bb_plan.specs.declared.plan.Work.{Work}
+use Rattle.bb_plan.specs.declared.plan.Work.TheVariants.{History}
 use Rattle.bb_session.specs.Session.{LoadAnswer, Session, loaded_area, work_session}
 use Rattle.bb_plan.specs.Refusal.{takes_memory}
 use Rattle.bb_session.specs.declared.report.Report.{Report}
@@ -50,16 +53,16 @@ pub record IsLooked (keyed : Keyed) (from to : Device) (answer : LoadAnswer) : T
 
 -- ---- a load
 
--- the area that was taken, if one was
+-- the stored area that was taken, if one was
 abbrev pub area_taken : List ℕ → Loaded → Option (List ℕ)
-area_taken area (Copy used live) = Some area
+area_taken area (Copy used live len old) = Some area
 area_taken area NoCopy = None
 
--- a load found a copy of this area, or no copy and this area's defaults
+-- a load found a copy of this area, as long as it is stored, or no copy and the empty area
 pub record IsLoadedArea (keyed : Keyed) (area : List ℕ) (loaded : Loaded) (from to : Device)
     : Type 0 where
   pub gives : LoadGives (laid_form keyed) (laid_kinds keyed.layout) area from to loaded
-  pub defaults : IsDefault keyed.layout area loaded
+  pub says : LoadSays (laid_form keyed) area loaded
   pub exact : LoadsExactly (laid_form keyed) (laid_kinds keyed.layout) area from to loaded
   pub erases : LoadsErasing (laid_form keyed) (laid_kinds keyed.layout) area from to loaded
 
@@ -94,13 +97,17 @@ pub record IsPlay (script : ScriptTree) (known : Known) (grants : Option ℕ) (r
   pub ending : EndsBy end rounds
   pub granted : end ≢ ends.NoMemory → grants ≡ None
 
--- of every other work no memory is asked for among its rounds
+-- of every other work no memory is asked for among its rounds; and those around a slot hang on what
+-- was answered to the calls on it
 abbrev pub IsPlayOf : Acts → WorkAnswers → List Round → Type 0
 IsPlayOf (Plays script known) answers rounds = IsPlay script known answers.grants rounds
+IsPlayOf (SavesAround first place second) answers rounds =
+    (answers.grants ≡ None) × IsSavedAround first second answers.stuck rounds
 IsPlayOf acts answers rounds = answers.grants ≡ None
 
--- A work ran rounds after a load of this table, and this is what was answered to it. `used` is the
--- copy that the load took, and `now` the one that passes the last table.
+-- A work ran rounds after a load of this table, and wrote its slot between them, if it has one.
+-- This is what was answered to it. `used` is the copy that the load took, and `now` the one that
+-- passes the last table.
 pub record IsRunAfter (keyed : Keyed) (work : Work) (table : List ℕ) (used : Option ℕ)
     (from to : Device) (answers : WorkAnswers) : Type 0 where
   pub rounds : List Round
@@ -108,8 +115,10 @@ pub record IsRunAfter (keyed : Keyed) (work : Work) (table : List ℕ) (used : O
   pub answers_are : answers.rounds ≡ map answer_of rounds
   pub are : AreRoundsOf (start_plans_of work) (acts_of keyed.layout work table) rounds
   pub run :
-      AreRun keyed (start_plans_of work) (kept_before work table) used now rounds from to
+      AreRunAround keyed (start_plans_of work) (place_in (acts_of keyed.layout work table))
+      (kept_before work table) used now rounds answers.stuck from to
   pub played : IsPlayOf (acts_of keyed.layout work table) answers rounds
+  pub listed : answers.listed ≡ []
 
 -- it comes after a load that answered Ok
 abbrev pub IsRunAfterLoad :
@@ -128,13 +137,28 @@ pub record IsTableWork (plan : SessionPlan) (from to : Device) (load : LoadAnswe
   pub used : Option ℕ
   pub geometry : from.geometry ≡ plan.keyed.layout.geometry
   pub many : 2 ≤ plan.keyed.layout.copies
+  pub beside : IfSome (slot_of_work plan.work) (IsBesideCopies (laid_kinds plan.keyed.layout))
   pub loaded : IsLoaded plan.keyed used from middle load
   pub ran : IsRunAfterLoad plan used middle to load answers
 
+-- what was listed is the whole text, or where a read failed a front of it
+abbrev pub ListsFront : LoadAnswer → List ℕ → List ℕ → Type 0
+ListsFront (Ok found) whole listed = listed ≡ whole
+ListsFront (Err fault) whole listed = AddsFront whole [] listed
+
+-- a history listed what the copies' regions hold, and a look lists nothing
+abbrev pub IsListed : Work → Keyed → Device → LoadAnswer → List ℕ → Type 0
+IsListed History keyed from load listed =
+    ForSome (content from)
+    (λ image. ListsFront load (listed_by History keyed from.geometry.page image) listed)
+IsListed work keyed from load listed = listed ≡ []
+
+-- the copies were only read, by a look or for a history
 pub record IsLookWork (plan : SessionPlan) (from to : Device) (load : LoadAnswer)
     (answers : WorkAnswers) : Type 0 where
   pub looked : IsLooked plan.keyed from to load
-  pub none : answers ≡ no_answers
+  pub alone : answers ≡ listing answers.listed
+  pub listed : IsListed plan.work plan.keyed from load answers.listed
 
 abbrev pub IsWork : SessionPlan → Device → Device → LoadAnswer → WorkAnswers → Type 0
 IsWork plan from to load answers =

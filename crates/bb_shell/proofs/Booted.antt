@@ -4,7 +4,8 @@ use Rattle.std.specs.Option.{option_map_or}
 use Rattle.bb_chooser.specs.Binding.{Binding}
 use Rattle.bb_flash.specs.declared.plan.Plan.{Plan}
 use Rattle.bb_flash.specs.Device.{Device}
-use Rattle.bb_state.specs.State.{form_of, last_table_of, keyed_of, laid_of, used_of}
+use Rattle.bb_state.specs.Kinds.{is_table}
+use Rattle.bb_state.specs.State.{last_table_of, keyed_of, laid_of, used_of}
 use Rattle.bb_state.specs.declared.state.State.{State}
 use Rattle.bb_layout.specs.Kept.{IsLaid}
 use Rattle.bb_shell.proofs.Reached.{stops_refused}
@@ -17,7 +18,7 @@ use Rattle.bb_shell.specs.declared.boot_end.BootEnd.{BootEnd}
 use Rattle.bb_shell.specs.declared.boot_end.BootEnd.TheVariants as ends
 
 pub booted_of : (b : Binding) (plans : List (Option Plan)) (first table : List ℕ) (before after : State) (from to : Device) (end : BootEnd) →
-    table ≡ first → from.geometry ≡ (laid_of before).geometry → (fits : IsTrue ((form_of before).fits table)) (facts : IsLaid (laid_of before)) →
+    table ≡ first → from.geometry ≡ (laid_of before).geometry → (fits : IsTrue (is_table (keyed_of before) table)) (facts : IsLaid (laid_of before)) →
     HaveRun b plans (record before { table = table; fits = fits; facts = facts }) after from to end → IsBooted b plans first before after from to end
 booted_of b plans first table before after from to end same geometry fits facts run =
     let rounds = run.earlier ++ run.last ∷ [] in

@@ -360,10 +360,10 @@ at_number P [] number s all e = absurd cc
 at_number P (one ∷ later) zero s all e = let is : one ≡ s = cc in subst P is all.0
 at_number P (one ∷ later) (suc number) s all e = at_number P later number s all.1 e
 
-module _ (b : Binding) (cause : Cause) (plans : List (Option Plan)) (first : List ℕ) (before : Content)
+module _ (b : Binding) (cause : Cause) (plans : List (Option Plan)) (shows : List ℕ → List ℕ) (first : List ℕ) (before : Content)
     (passed : List (Option (List ℕ))) (s : Stage) (here : StandsAt first passed s) where
   abbrev Cut : Turn → Type 0
-  Cut turn = IsBootCutOff b cause plans first before turn s passed
+  Cut turn = IsBootCutOff b cause plans shows first before turn s passed
 
   -- before a load answered Ok nothing tells that a turn is one of a boot
   untouched : TurnMakes before Untouched s.areas s.acked → Cut Untouched
@@ -388,7 +388,7 @@ module _ (b : Binding) (cause : Cause) (plans : List (Option Plan)) (first : Lis
   }
 
   module _ (place ok : ℕ) (saves : List (List ℕ)) (started : Option ℕ) (given : place ≡ picked before.marks)
-      (behind : IsBootAfter b cause plans before place saves ok started) where
+      (behind : IsBootAfter b cause plans shows before place saves ok started) where
     abbrev Given : List (List ℕ)
     Given = take (place + 1) before.areas
 
@@ -469,12 +469,12 @@ module _ (b : Binding) (cause : Cause) (plans : List (Option Plan)) (first : Lis
         (ap (λ stages. slice_get stages number) (sym stages_are) ∙ e))
 
 pub boot_cut_law : BootCutLaw
-boot_cut_law b cause plans first before Untouched number s passed given boots e here =
-    untouched b cause plans first before passed s here (only_entry first before s passed number e)
-boot_cut_law b cause plans first before Looked number s passed given boots e here =
-    looked b cause plans first before passed s here (only_entry first before s passed number e)
-boot_cut_law b cause plans first before Unloaded number s passed given boots e here =
-    unloaded b cause plans first before passed s here (only_entry first before s passed number e)
-boot_cut_law b cause plans first before (Loaded place saves ok started) number s passed given boots e here =
-    loaded b cause plans first before passed s here place ok saves started given boots number
+boot_cut_law b cause plans shows first before Untouched number s passed given boots e here =
+    untouched b cause plans shows first before passed s here (only_entry first before s passed number e)
+boot_cut_law b cause plans shows first before Looked number s passed given boots e here =
+    looked b cause plans shows first before passed s here (only_entry first before s passed number e)
+boot_cut_law b cause plans shows first before Unloaded number s passed given boots e here =
+    unloaded b cause plans shows first before passed s here (only_entry first before s passed number e)
+boot_cut_law b cause plans shows first before (Loaded place saves ok started) number s passed given boots e here =
+    loaded b cause plans shows first before passed s here place ok saves started given boots number
     (counted_stages before place ok saves number s e)

@@ -211,20 +211,20 @@ power_ons =
     ∷ record { event = Decayed; content = worn }
     ∷ record { event = Finished (Loaded 2 (system0_has 0 ∷ []) 1 (Some 0)); content = twice_started } ∷ []
 
-first_boot : IsBootAfter b Other both at_first 0 (system0_has 2 ∷ []) 1 (Some 0)
+first_boot : IsBootAfter b Other both (λ area. area) at_first 0 (system0_has 2 ∷ []) 1 (Some 0)
 unfolding rounds_by
 first_boot = record { table = table 3 20 3 10 0; table_is = refl; sized = refl; answers = made ∷ []; turn = refl }
 
 -- a save that was cut is one that was refused
-cut_boot : IsBootAfter b Other both once_started 1 (system0_has 1 ∷ []) 0 None
+cut_boot : IsBootAfter b Other both (λ area. area) once_started 1 (system0_has 1 ∷ []) 0 None
 unfolding rounds_by
 cut_boot = record { table = system0_has 2; table_is = refl; sized = refl; answers = refused ∷ []; turn = refl }
 
-last_boot : IsBootAfter b Other both worn 2 (system0_has 0 ∷ []) 1 (Some 0)
+last_boot : IsBootAfter b Other both (λ area. area) worn 2 (system0_has 0 ∷ []) 1 (Some 0)
 unfolding rounds_by
 last_boot = record { table = system0_has 1; table_is = refl; sized = refl; answers = made ∷ []; turn = refl }
 
-boots : AreBoots b both at_first power_ons
+boots : AreBoots b both (λ area. area) at_first power_ons
 unfolding AreBoots
 boots = (
   record { cause = Other; boots = first_boot; stays = λ place table at here. refl },
@@ -299,7 +299,7 @@ unfolding first_loaded
 first_table_given = refl
 
 -- a reset that gives attempts back changes the table that the load gave
-gives_back : StaysReset (bound true false) Other (record at_first { areas = table 0 20 0 10 2 ∷ [] }) (Finished (Loaded 0 [] 0 None)) → ⊥
+gives_back : StaysReset (bound true false) Other (λ area. area) (record at_first { areas = table 0 20 0 10 2 ∷ [] }) (Finished (Loaded 0 [] 0 None)) → ⊥
 gives_back stays = let same = stays 0 (table 0 20 0 10 2) refl refl in cc
 
 -- ---- plans

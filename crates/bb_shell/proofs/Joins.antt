@@ -3,7 +3,7 @@ use Rattle.std.proofs.Common.{◌≡◌, ℕ, Bool, true, false, List, Option, S
 use Rattle.std.proofs.lemmas.Bool.{false≢true}
 use Rattle.std.specs.Option.{ForSome, option_map}
 use Rattle.std.specs.Prelude.{is_some}
-use Rattle.bb_copies.specs.Kind.{BucketKind}
+use Rattle.bb_bucket.specs.Kind.{BucketKind}
 use Rattle.bb_copies.specs.Loading.{KeepsOutside}
 use Rattle.bb_copies.proofs.Runs.{same_images}
 use Rattle.bb_flash.proofs.Counting.{images_untouched}
@@ -58,7 +58,7 @@ still_outside kinds from to same history = same_outside kinds from to (images_un
 
 pub stored_refl : (keyed : Keyed) (kept : Option (List ℕ)) (from to : Device) → content to ≡ content from → StaysStored keyed kept kept from to
 stored_refl keyed kept from to same before h after k held =
-    subst (λ image. HoldsKept kept (laid_passings keyed image)) (some_is before after (sym h ∙ sym same ∙ k)) held
+    subst (λ image. HoldsKept keyed.layout kept (laid_passings keyed image)) (some_is before after (sym h ∙ sym same ∙ k)) held
 
 pub stored_joined : (keyed : Keyed) (a b c : Option (List ℕ)) (one two three : Device) → IsLater one two →
     StaysStored keyed a b one two → StaysStored keyed b c two three → StaysStored keyed a c one three

@@ -19,5 +19,6 @@ pub mod Saves
 pub mod Sequence
 pub mod Sound
 pub mod Starts
+pub mod Still
 pub mod Trails
 pub mod Underway

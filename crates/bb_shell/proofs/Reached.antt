@@ -29,6 +29,8 @@ use Rattle.bb_shell.proofs.Saves.{kept_is, save_later}
 use Rattle.bb_shell.proofs.Starts.{by_start, round_later, start_content, start_later, unrefused}
 use Rattle.bb_shell.specs.Boot.{AreRounds, Round, is_retried, plan_at}
 use Rattle.bb_shell.specs.Running.{AreRun, IsRoundRun, IsTried, is_refused_save, refusal_of, same_as_kept}
+use Rattle.bb_layout.specs.Convert.{convert}
+use Rattle.bb_state.specs.Shows.{IsOwn}
 use Rattle.bb_shell.specs.Stages.{IsSettled, StandsIn, first_area, saving_rounds, stages_reached}
 use Rattle.bb_shell.specs.declared.outcome.Outcome.{Outcome}
 
@@ -119,19 +121,20 @@ module _ (keyed : Keyed) where
 
   -- after a save that answered Ok
   pub record HoldsNow (table : List ℕ) (now : Option ℕ) (image : Image) : Type 0 where
+    pub own : IsOwn keyed.layout table
     pub each : EachPassesOrNothing table (Passed image)
     pub some : SomePasses (Passed image)
     pub uses : KeepsUsed now (Passed image)
 
   pub stored_holds : (table : List ℕ) (now : Option ℕ) (from to : Device) (image : Image) → from.geometry ≡ keyed.layout.geometry →
-      IsStored keyed table now from to → content to ≡ Some image → HoldsNow table now image
-  stored_holds table now from to image geometry stored here =
+      IsOwn keyed.layout table → IsStored keyed table now from to → content to ≡ Some image → HoldsNow table now image
+  stored_holds table now from to image geometry own stored here =
       let saved = stored.saved in
       let page = from.geometry.page in
       subst (λ g. EachPassesOrNothing table (passings (laid_form keyed) g.page (laid_kinds keyed.layout) image)
       → SomePasses (passings (laid_form keyed) g.page (laid_kinds keyed.layout) image)
       → KeepsUsed now (passings (laid_form keyed) g.page (laid_kinds keyed.layout) image) → HoldsNow table now image) (sym geometry)
-      (λ each some uses. record { each = each; some = some; uses = uses })
+      (λ each some uses. record { own = own; each = each; some = some; uses = uses })
       (saved.exit.kept image here).each
       (passes_some (passings (laid_form keyed) page (laid_kinds keyed.layout) image) saved.used table (saved.exit.kept image here).passes)
       (subst (λ u. KeepsUsed u (passings (laid_form keyed) page (laid_kinds keyed.layout) image)) (sym saved.is)
@@ -141,12 +144,14 @@ module _ (keyed : Keyed) where
   pub settled_more : (kept : Option (List ℕ)) (used : Option ℕ) (table : List ℕ) (now : Option ℕ) (x y : Image) (h : List (List ℕ)) (a : ℕ) →
       IsSettled keyed kept used x h a → HoldsNow table now y → IsSettled keyed (Some table) now y (h ++ table ∷ []) (a + 1)
   settled_more kept used table now x y h a settled holds =
-      let more = save_done (first_area keyed.layout) (Passed x) h a settled.stands.marks table settled.stands.stands (Passed y) holds.each holds.some in
+      let more = save_done first_area (Passed x) h a settled.stands.marks table settled.stands.stands (Passed y) holds.each holds.some in
       let last = settled.last in
       record {
         stands = subst (λ n. StandsIn keyed y (h ++ table ∷ []) n) (sym last) more;
         last = ap (λ n. n + 1) last ∙ save_last h table;
-        area = ap (slice_get (h ++ table ∷ [])) last ∙ get_seam h table [];
+        area =
+            ap (option_map (convert keyed.layout)) (ap (slice_get (h ++ table ∷ [])) last ∙ get_seam h table [])
+            ∙ ap (λ t. Some t) holds.own;
         uses = holds.uses;
       }
 
@@ -165,15 +170,15 @@ module _ (keyed : Keyed) where
   abbrev pub Reaches : Option (List ℕ) → Option ℕ → List Round → Image → Image → Type 0
   Reaches kept used saving x z =
       (h : List (List ℕ)) (a : ℕ) →
-      IsSettled keyed kept used x h a → StandsAtOne (first_area keyed.layout) (Passed z) (reached_by h a saving)
+      IsSettled keyed kept used x h a → StandsAtOne first_area (Passed z) (reached_by h a saving)
 
   -- what stands for the list at entry stands for the first stage
   pub at_entry : (z : Image) (h : List (List ℕ)) (a : ℕ) (saving : List Round) → StandsIn keyed z h a →
-      StandsAtOne (first_area keyed.layout) (Passed z) (reached_by h a saving)
+      StandsAtOne first_area (Passed z) (reached_by h a saving)
   at_entry z h a saving stands =
       let tables = map (λ (round : Round). round.table) saving in
       let many : 1 + length tables + count_by is_made saving ≡ suc (length tables + count_by is_made saving) = omega arith in
-      subst (λ (n : ℕ). StandsAtOne (first_area keyed.layout) (Passed z) (take n (stage h a ∷ stages_of h a tables))) (sym many) (inl stands)
+      subst (λ (n : ℕ). StandsAtOne first_area (Passed z) (take n (stage h a ∷ stages_of h a tables))) (sym many) (inl stands)
 
   save_counted : (used : Option ℕ) (table : List ℕ) (from to : Device) → from.geometry ≡ keyed.layout.geometry →
       SaveImages (laid_form keyed) (laid_kinds keyed.layout) used table from to → EachCounted Luck (Longer used table) from to
@@ -185,7 +190,7 @@ module _ (keyed : Keyed) where
   pub longer_stands : (kept : Option (List ℕ)) (used : Option ℕ) (table : List ℕ) (x y : Image) (h : List (List ℕ)) (a : ℕ) →
       IsSettled keyed kept used x h a → Longer used table x y → StandsIn keyed y (h ++ table ∷ []) a
   longer_stands kept used table x y h a settled longer =
-      longer settled.uses (first_area keyed.layout) h a settled.stands.marks settled.stands.stands
+      longer settled.uses first_area h a settled.stands.marks settled.stands.stands
 
   module _ (plans : List (Option Plan)) (kept : Option (List ℕ)) (used copy : Option ℕ) (round : Round) (from device : Device)
       (geometry : from.geometry ≡ keyed.layout.geometry) (run : IsRoundRun keyed plans kept used copy round from device) where
@@ -234,12 +239,12 @@ module _ (keyed : Keyed) where
     made_holds e done image here =
         let stored = subst (λ r. IfNone r (IsStored keyed round.table copy from run.middle)) (unrefused round.outcome done)
         (run.saved.begun e).stored in
-        stored_holds round.table copy from run.middle image geometry stored
+        stored_holds round.table copy from run.middle image geometry run.saved.own stored
         (sym (start_content (plan_at plans round.target) round.outcome run.middle device run.tried) ∙ here)
 
     -- the images that count since the round began, where those that count after it are known
     module _ (later : List Round) (to : Device) (early : IsLater from device) (late : IsLater device to)
-        (stops : StopsRefused (round ∷ later)) (alone : later ≡ [] → to ≡ device)
+        (stops : StopsRefused (round ∷ later)) (alone : is_refused_save round.outcome ≡ true → later ≡ [] → to ≡ device)
         (rest : EachCounted Luck (Reaches (Some round.table) copy (saving_rounds (Some round.table) later)) device to) where
       idle_reached : same_as_kept kept round.table ≡ true → EachCounted Luck (Reaches kept used (saving_rounds kept (round ∷ later))) from to
       idle_reached e =
@@ -255,10 +260,10 @@ module _ (keyed : Keyed) where
       refused_reached e refused =
           let none : later ≡ [] = stops.0 refused in
           subst (λ l. EachCounted Luck (Reaches kept used (round ∷ saving_rounds (Some round.table) l)) from to) (sym none)
-          (subst (λ d. EachCounted Luck (Reaches kept used (round ∷ [])) from d) (sym (alone none))
+          (subst (λ d. EachCounted Luck (Reaches kept used (round ∷ [])) from d) (sym (alone refused none))
           (counted_weaker Luck (Longer used round.table) (Reaches kept used (round ∷ [])) from device
           (λ x y longer h a settled.
-          subst (StandsAtOne (first_area keyed.layout) (Passed y)) (sym (refused_stages h a round refused))
+          subst (StandsAtOne first_area (Passed y)) (sym (refused_stages h a round refused))
           (inr (inl (longer_stands kept used round.table x y h a settled longer))))
           (begun_counted e)))
 
@@ -269,10 +274,10 @@ module _ (keyed : Keyed) where
           counted_joined_at Luck (Longer used round.table) (Reaches (Some round.table) copy saving) (Reaches kept used (round ∷ saving))
           (λ x y. HoldsNow round.table copy y) from device to
           (λ x y longer h a settled.
-          subst (StandsAtOne (first_area keyed.layout) (Passed y)) (sym (made_stages h a round saving done))
+          subst (StandsAtOne first_area (Passed y)) (sym (made_stages h a round saving done))
           (inr (inl (longer_stands kept used round.table x y h a settled longer))))
           (λ x y z holds longer reaches h a settled.
-          subst (StandsAtOne (first_area keyed.layout) (Passed z)) (sym (made_stages h a round saving done))
+          subst (StandsAtOne first_area (Passed z)) (sym (made_stages h a round saving done))
           (inr (inr (reaches (h ++ round.table ∷ []) (a + 1) (settled_more kept used round.table copy x y h a settled holds)))))
           early late
           (λ first here mid there. made_holds e done mid.image (told_image device mid there))
@@ -323,5 +328,5 @@ module _ (keyed : Keyed) where
       let early = round_later keyed plans kept used run.copy round from run.device run.before in
       round_reached plans kept used run.copy round from run.device geometry run.before later to early
       (rounds_later plans later (Some round.table) run.copy now run.device to run.behind) stops
-      (none_alone plans later (Some round.table) run.copy now run.device to run.behind)
+      (λ refused. none_alone plans later (Some round.table) run.copy now run.device to run.behind)
       (rounds_reached plans later (Some round.table) run.copy now run.device to (early.geometry ∙ geometry) stops.1 run.behind)

@@ -18,8 +18,9 @@ use Rattle.bb_chooser.specs.Others.{KeepsOthers}
 use Rattle.bb_chooser.specs.Binding.{Binding, IsBoundTo}
 use Rattle.bb_chooser.proofs.Alone.{keeps_changes}
 use Rattle.bb_state.proofs.Fitting.{changed_fits}
+use Rattle.bb_state.proofs.Showing.{each_shows, state_own}
 use Rattle.bb_state.specs.Keyed.{Keyed}
-use Rattle.bb_state.specs.Kinds.{laid_form, laid_kinds}
+use Rattle.bb_state.specs.Kinds.{is_table, laid_form, laid_kinds}
 use Rattle.bb_state.specs.State.{IsStored, form_of, has_changed, is_kept, is_sure, last_table_of, keyed_of, kinds_of, laid_of, used_of}
 use Rattle.bb_state.specs.declared.state.State.{State}
 use Rattle.bb_shell.proofs.Joins.{outside_refl, stored_refl}
@@ -36,7 +37,7 @@ known_is state sure e = ap (λ s. s && bytes_eq state.table (last_table_of state
 
 -- a table in which a chooser changed its own variables alone can be kept as a record
 pub chosen_fits : (b : Binding) (state : State) (table : List ℕ) → IsBoundTo (laid_of state).vars b → KeepsOthers b state.table table
-    → IsTrue ((form_of state).fits table)
+    → IsTrue (is_table (keyed_of state) table)
 chosen_fits b state table bound others =
     changed_fits (keyed_of state) state.table table state.facts state.fits (keeps_changes (laid_of state).vars b state.table table others bound)
 
@@ -47,6 +48,7 @@ pub saved_ok : (state : State) (now : Option ℕ) (from to : Device) → is_sure
     (is_kept state ≡ true → now ≡ used_of state) →
     IsSaveRun (keyed_of state) (Some (last_table_of state)) (used_of state) now state.table None from to
 saved_ok state now from to sure idle save used = record {
+  own = state_own state;
   idle = λ same. record { device = idle (changed_is state true sure same); copy = used (known_is state sure same); done = refl };
   begun = λ other.
       subst (λ (s : Bool). IsSave (form_of state) (kinds_of state) s (used_of state) now state.table from to None) sure
@@ -59,6 +61,7 @@ pub saved_err : (state : State) (now : Option ℕ) (fault : CopyFault) (from to 
     (has_changed state ≡ true → IsSave (form_of state) (kinds_of state) (is_sure state) (used_of state) now state.table from to (Some fault)) →
     IsSaveRun (keyed_of state) (Some (last_table_of state)) (used_of state) now state.table (Some fault) from to
 saved_err state now fault from to sure other save = record {
+  own = state_own state;
   idle = λ same. absurd (other (known_is state sure same));
   begun = λ changed.
       subst (λ (s : Bool). IsSave (form_of state) (kinds_of state) s (used_of state) now state.table from to (Some fault)) sure
@@ -80,6 +83,7 @@ pub always_saved : (state : State) (now : Option ℕ) (refusal : Option CopyFaul
     IsSave (form_of state) (kinds_of state) (is_sure state) (used_of state) now state.table from to refusal →
     IsSaveRun (keyed_of state) None (used_of state) now state.table refusal from to
 always_saved state now refusal from to sure save = record {
+  own = state_own state;
   idle = λ same. absurd (false≢true same);
   begun = λ other.
       subst (λ (s : Bool). IsSave (form_of state) (kinds_of state) s (used_of state) now state.table from to refusal) sure save;
@@ -115,7 +119,8 @@ module _ (keyed : Keyed) (kept : Option (List ℕ)) (used now : Option ℕ) (tab
 
   new_stored : from.geometry ≡ keyed.layout.geometry → IsStored keyed table now from to → StaysStored keyed kept (Some table) from to
   new_stored geometry stored before h after k held =
-      subst (λ g. EachPassesOrNothing table (passings (laid_form keyed) g.page (laid_kinds keyed.layout) after)) geometry (stored.saved.exit.kept after k).each
+      each_shows keyed.layout table (passings (laid_form keyed) keyed.layout.geometry.page (laid_kinds keyed.layout) after) run.own
+      (subst (λ g. EachPassesOrNothing table (passings (laid_form keyed) g.page (laid_kinds keyed.layout) after)) geometry (stored.saved.exit.kept after k).each)
 
   pub save_stored : from.geometry ≡ keyed.layout.geometry → refusal ≡ None → StaysStored keyed kept (Some table) from to
   save_stored geometry done = at (same_as_kept kept table) refl

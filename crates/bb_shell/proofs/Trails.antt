@@ -41,7 +41,7 @@ fair_from L told since later order fair = λ call change from before made lucky.
 
 module _ (keyed : Keyed) where
   abbrev First : List ℕ
-  First = first_area keyed.layout
+  First = first_area
 
   abbrev Page : ℕ
   Page = keyed.layout.geometry.page
@@ -53,11 +53,11 @@ module _ (keyed : Keyed) where
     Since = IsCounted keyed last
 
     -- each image that counts since a moment stands for one of these stages
-    abbrev StandSince : ℕ → List Stage → Type 0
+    abbrev pub StandSince : ℕ → List Stage → Type 0
     StandSince when stages =
         (image : Image) → Counts (Luck keyed) Page last when image → StandsAtOne First (Passed keyed image) stages
 
-    in_front : (h : List (List ℕ)) (a when : ℕ) (later : List Milestone) →
+    pub in_front : (h : List (List ℕ)) (a when : ℕ) (later : List Milestone) →
         when ≤ next_moment (moment last) later →
         StandSince when (stages_in (milestone_of h a when ∷ later)) → IsTrail Since (moment last) First later →
         IsTrail Since (moment last) First (milestone_of h a when ∷ later)
@@ -70,7 +70,7 @@ module _ (keyed : Keyed) where
         (here, trail)
 
     -- what stands for a list stands for it with a table after it too
-    longer_one : (h : List (List ℕ)) (a : ℕ) (table : List ℕ) (rest : List Stage) (image : Image) →
+    pub longer_one : (h : List (List ℕ)) (a : ℕ) (table : List ℕ) (rest : List Stage) (image : Image) →
         StandsAtOne First (Passed keyed image) (stage h a ∷ stage (h ++ table ∷ []) a ∷ rest) →
         StandsAtOne First (Passed keyed image) (stage (h ++ table ∷ []) a ∷ rest)
     longer_one h a table rest image (inl here) =
@@ -146,7 +146,7 @@ module _ (keyed : Keyed) where
         }
 
   -- what was answered from a device on was so from an earlier one on
-  answered_from : (one two end : Device) (areas : List (List ℕ)) (answered : List ℕ) → IsLater one two →
+  pub answered_from : (one two end : Device) (areas : List (List ℕ)) (answered : List ℕ) → IsLater one two →
       AreAnswered keyed two end areas answered → AreAnswered keyed one end areas answered
   unfolding AreAnswered
   answered_from one two end areas [] early known = later_joined one two end early known
@@ -167,7 +167,7 @@ module _ (keyed : Keyed) where
   Trails kept used saving from to =
       EachSettled keyed kept used from to (λ first last h a. TrailBy last from to first h a saving)
 
-  stand_since : (kept : Option (List ℕ)) (used : Option ℕ) (saving : List Round) (from to : Device) → to.geometry ≡ keyed.layout.geometry →
+  pub stand_since : (kept : Option (List ℕ)) (used : Option ℕ) (saving : List Round) (from to : Device) → to.geometry ≡ keyed.layout.geometry →
       EachCounted (Luck keyed) (Reaches keyed kept used saving) from to →
       EachSettled keyed kept used from to (λ first last h a. StandSince last (moment first) (reached_by h a saving))
   stand_since kept used saving from to geometry counted = λ first e last f h a settled image counts.
@@ -319,7 +319,7 @@ module _ (keyed : Keyed) where
   module _ (plans : List (Option Plan)) (kept : Option (List ℕ)) (used copy now : Option ℕ) (round : Round) (later : List Round) (from device to : Device)
       (geometry : from.geometry ≡ keyed.layout.geometry) (run : IsRoundRun keyed plans kept used copy round from device)
       (early : IsLater from device) (late : IsLater device to)
-      (stops : StopsRefused (round ∷ later)) (alone : later ≡ [] → to ≡ device)
+      (stops : StopsRefused (round ∷ later)) (alone : is_refused_save round.outcome ≡ true → later ≡ [] → to ≡ device)
       (rest : Leads (kept_after (Some round.table) later) (Some round.table) copy now (saving_rounds (Some round.table) later) device to) where
     abbrev end : Option (List ℕ)
     end = kept_after (Some round.table) later
@@ -352,7 +352,7 @@ module _ (keyed : Keyed) where
           let none : later ≡ [] = stops.0 refused in
           let only : saving_rounds kept (round ∷ later) ≡ round ∷ [] =
           begun_saving kept round later e ∙ ap (λ l. round ∷ saving_rounds (Some round.table) l) none in
-          let at_end : to.told ≡ device.told = ap (λ d. d.told) (alone none) in
+          let at_end : to.told ≡ device.told = ap (λ d. d.told) (alone refused none) in
           let made = made_cons round [] true refused in
           let acked : a + count_by is_made (round ∷ []) ≡ a = omega (arith, made) in
           subst (LeadsBy end now first last h a) (sym only)
@@ -411,7 +411,7 @@ module _ (keyed : Keyed) where
       let early = round_later keyed plans kept used run.copy round from run.device run.before in
       let late = rounds_later keyed plans later (Some round.table) run.copy now run.device to run.behind in
       round_leads plans kept used run.copy now round later from run.device to geometry run.before early late stops
-      (none_alone keyed plans later (Some round.table) run.copy now run.device to run.behind)
+      (λ refused. none_alone keyed plans later (Some round.table) run.copy now run.device to run.behind)
       (rounds_leads plans later (Some round.table) run.copy now run.device to (early.geometry ∙ geometry) stops.1 run.behind)
 
 -- ---- the words of the contract

@@ -4,7 +4,6 @@ use Rattle.std.specs.Option.{ForSome, IfSome}
 use Rattle.bb_base.specs.Faults.{Rose}
 use Rattle.bb_chooser.specs.Binding as bindings
 use Rattle.bb_chooser.specs.Binding.{Binding}
-use Rattle.bb_copies.specs.StandsFor.{EachPassesOrNothing}
 use Rattle.bb_copies.specs.declared.answers.CopyFault.{CopyFault}
 use Rattle.bb_copies.specs.declared.answers.CopyFault.TheVariants.{WriteFault}
 use Rattle.bb_flash.specs.declared.plan.Plan.{Plan}
@@ -12,6 +11,7 @@ use Rattle.bb_flash.specs.Device.{Device, content, starts}
 use Rattle.bb_layout.specs.Layout.{Laid}
 use Rattle.bb_state.specs.Keyed.{Keyed}
 use Rattle.bb_state.specs.Kinds.{laid_passings}
+use Rattle.bb_state.specs.Shows.{EachShowsOrNothing}
 use Rattle.bb_state.specs.State.{IsOn, is_sure, last_table_of, keyed_of, laid_of, used_of}
 use Rattle.bb_state.specs.declared.state.State.{State}
 use Rattle.bb_shell.specs.Boot.{AreRounds, Round, end_by, boot_end, plan_at, table_after}
@@ -122,9 +122,10 @@ AddsStarts plans from to ends.NoTarget = starts to ≡ starts from
 AddsStarts plans from to (ends.StartFailed target tries) = starts to ≡ starts from
 AddsStarts plans from to (ends.Fault fault) = starts to ≡ starts from
 
--- every copy passes what was last loaded or saved, if that is known, or nothing
-abbrev pub HoldsKept : Option (List ℕ) → List (Option (List ℕ)) → Type 0
-HoldsKept kept passed = IfSome kept (λ table. EachPassesOrNothing table passed)
+-- every copy passes an area that shows the table that was last loaded or saved, if that is known,
+-- or nothing
+abbrev pub HoldsKept : Laid → Option (List ℕ) → List (Option (List ℕ)) → Type 0
+HoldsKept layout kept passed = IfSome kept (λ table. EachShowsOrNothing layout table passed)
 
 -- where it was so before, it is so afterwards
 abbrev pub StaysStored : Keyed → Option (List ℕ) → Option (List ℕ) → Device → Device → Type 0
@@ -133,7 +134,8 @@ StaysStored keyed kept now from to =
     (λ before.
     ForSome (content to)
     (λ after.
-    HoldsKept kept (laid_passings keyed before) → HoldsKept now (laid_passings keyed after)))
+    HoldsKept keyed.layout kept (laid_passings keyed before) →
+    HoldsKept keyed.layout now (laid_passings keyed after)))
 
 abbrev pub is_fault_end : BootEnd → Bool
 is_fault_end (ends.Started target left tries) = false

@@ -10,6 +10,7 @@ use Rattle.bb_flash.specs.Cuts.{IsLater}
 use Rattle.bb_flash.specs.Device.{Device, IsDevice, StartKeeps}
 use Rattle.bb_state.specs.Keyed.{Keyed}
 use Rattle.bb_state.specs.Kinds.{laid_form, laid_kinds}
+use Rattle.bb_state.specs.Shows.{IsOwn}
 use Rattle.bb_shell.specs.Boot.{Round, plan_at}
 use Rattle.bb_shell.specs.declared.outcome.Outcome.{Outcome}
 use Rattle.bb_shell.specs.declared.outcome.Outcome.TheVariants.{Refused, Unplanned, Failed, Started}
@@ -45,10 +46,12 @@ abbrev pub same_as_kept : Option (List ℕ) → List ℕ → Bool
 same_as_kept None table = false
 same_as_kept (Some kept) table = bytes_eq table kept
 
--- a table was to be saved where `kept` was last loaded or saved, if it was not to be saved always
+-- a table of the layout was to be saved where `kept` was last loaded or saved, if it was not to be
+-- saved always
 pub record IsSaveRun
     (keyed : Keyed) (kept : Option (List ℕ)) (used now : Option ℕ) (table : List ℕ)
     (refusal : Option CopyFault) (from to : Device) : Type 0 where
+  pub own : IsOwn keyed.layout table
   pub idle : same_as_kept kept table ≡ true → SavesNothing used now refusal from to
   pub begun : same_as_kept kept table ≡ false → IsBegun keyed used now table refusal from to
 

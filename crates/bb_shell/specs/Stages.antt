@@ -1,7 +1,7 @@
 -- How far the saves of a boot came, and since when: what the copies stand for at its end, and in
 -- each image that a cut of power leaves on the way. It goes on after a load or a save that answered
 -- Ok, and another call's stages go on after it.
-use Rattle.std.specs.Prelude.{◌≡◌, ℕ, ◌+◌, List, [], ◌∷◌, ◌++◌, length, take, map, count_by, slice_get, not, Option, Some, if◌then◌else◌}
+use Rattle.std.specs.Prelude.{◌≡◌, ℕ, ◌+◌, List, [], ◌∷◌, ◌++◌, length, take, map, count_by, not, Option, Some, if◌then◌else◌}
 use Rattle.std.specs.Option.{ForSome, IfSome, option_map_or}
 use Rattle.bb_copies.specs.Luck.{IsLucky}
 use Rattle.bb_copies.specs.Saving.{KeepsUsed}
@@ -11,10 +11,9 @@ use Rattle.bb_flash.specs.Counted.{Counts, IsFair}
 use Rattle.bb_flash.specs.Cuts.{IsLater}
 use Rattle.bb_flash.specs.Device.{Device, Told, moment}
 use Rattle.bb_flash.specs.Image.{Image}
-use Rattle.bb_layout.specs.Defaults.{defaults_of}
-use Rattle.bb_layout.specs.Layout.{Laid}
 use Rattle.bb_state.specs.Keyed.{Keyed}
 use Rattle.bb_state.specs.Kinds.{laid_passings}
+use Rattle.bb_state.specs.Shows.{ShowsAt}
 use Rattle.bb_state.specs.State.{IsStored}
 use Rattle.bb_shell.specs.Boot.{Round, last_round}
 use Rattle.bb_shell.specs.Running.{is_refused_save, same_as_kept}
@@ -52,20 +51,20 @@ stages_reached h a saves ok =
 
 -- ---- what an image stands for
 
--- the area that a device stands for where no copy passes
-abbrev pub first_area : Laid → List ℕ
-first_area layout = defaults_of layout.area_len layout.vars
+-- the area that a device stands for where no copy passes: the empty one, which shows the defaults
+abbrev pub first_area : List ℕ
+first_area = []
 
 abbrev pub StandsIn : Keyed → Image → List (List ℕ) → ℕ → Type 0
-StandsIn keyed image h a = Stands (first_area keyed.layout) (laid_passings keyed image) h a
+StandsIn keyed image h a = Stands first_area (laid_passings keyed image) h a
 
 -- As after a load or a save that answered Ok: an image stands for a list whose last area is
--- acknowledged, and is the one that is kept, if one is, and the copy that is used passes.
+-- acknowledged, and shows the table that is kept, if one is, and the copy that is used passes.
 pub record IsSettled (keyed : Keyed) (kept : Option (List ℕ)) (used : Option ℕ) (image : Image)
     (h : List (List ℕ)) (a : ℕ) : Type 0 where
   pub stands : StandsIn keyed image h a
   pub last : a + 1 ≡ length h
-  pub area : IfSome kept (λ table. slice_get h a ≡ Some table)
+  pub area : IfSome kept (λ table. ShowsAt keyed.layout h a table)
   pub uses : KeepsUsed used (laid_passings keyed image)
 
 -- P holds of what a device told and tells, and of each list that its content stood for after a load
@@ -120,7 +119,7 @@ pub record HasTrail (keyed : Keyed) (from to : Device) (first last : Told) (h : 
   pub stages :
       stages_in (trail_of h a (moment first) saves answered) ≡ stages_reached h a saves ok
   pub trail :
-      IsTrail (IsCounted keyed last) (moment last) (first_area keyed.layout)
+      IsTrail (IsCounted keyed last) (moment last) first_area
       (trail_of h a (moment first) saves answered)
 
 -- ---- at exit

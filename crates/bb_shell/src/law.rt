@@ -11,9 +11,9 @@ pub fn law_rounds()
 {}
 
 /// Over power-ons in each of which a board boots by the same files, with cuts and decays in
-/// between, and where no reset changes a table that a load gave: the starts are no more than the
-/// attempts that the enabled targets have in the first of these tables. Where no load answers Ok
-/// nothing is started.
+/// between, and where no reset changes a table that a load gave, as the layout reads what is
+/// stored: the starts are no more than the attempts that the enabled targets have in the first of
+/// these tables. Where no load answers Ok nothing is started.
 pub fn law_attempts()
     ensures attempts { AttemptsLaw }
     ensures no_load { NoLoadLaw }

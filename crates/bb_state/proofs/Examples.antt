@@ -116,11 +116,18 @@ in_strides format key = record {
 abbrev jefe : List ℕ
 jefe = codes "Jefe" ++ replicate 60 0
 
-no_hmac : (laid_form (in_strides Raw None)).reach ≡ 17
+-- a stride of 64 bytes has room for a record of 56: a header of 16, an area, and a code of 32
+no_hmac : (laid_form (in_strides Raw None)).area_len ≡ 40
 no_hmac = refl
 
-an_hmac : (laid_form (in_strides RawHmac (Some jefe))).reach ≡ 49
+an_hmac : (laid_form (in_strides RawHmac (Some jefe))).area_len ≡ 8
 an_hmac = refl
+
+no_more_counts : (laid_form (in_strides Raw None)).reach ≡ 56
+no_more_counts = refl
+
+no_more_counts_with_a_code : (laid_form (in_strides RawHmac (Some jefe))).reach ≡ 56
+no_more_counts_with_a_code = refl
 
 key_there : FitsKey RawHmac (Some jefe)
 key_there = refl

@@ -10,7 +10,8 @@ use Rattle.bb_layout.specs.declared.var.Var.{Var}
 use Rattle.bb_state.proofs.Fitting.{fits_sized}
 use Rattle.bb_state.proofs.Sets.{set_changes}
 use Rattle.bb_state.specs.Named.{after_set}
-use Rattle.bb_state.specs.State.{form_of, keyed_of, laid_of}
+use Rattle.bb_state.specs.Kinds.{is_table}
+use Rattle.bb_state.specs.State.{keyed_of, laid_of}
 use Rattle.bb_state.specs.declared.state.State.{State}
 
 -- it has the layout's length
@@ -32,11 +33,11 @@ set_outside state layout name text table of after =
 laid_prop : (layout : Laid) → IsProp (IsLaid layout)
 laid_prop layout = Prim.hlevel (props, HasFewNames-prop)
 
-fits_prop : (state : State) → IsProp (IsTrue ((form_of state).fits state.table))
+fits_prop : (state : State) → IsProp (IsTrue (is_table (keyed_of state) state.table))
 fits_prop state = Prim.hlevel props
 
-pub same_state : (state : State) (fits : IsTrue ((form_of state).fits state.table)) (facts : IsLaid (laid_of state))
+pub same_state : (state : State) (fits : IsTrue (is_table (keyed_of state) state.table)) (facts : IsLaid (laid_of state))
     → record state { fits = fits; facts = facts } ≡ state
 same_state state fits facts =
-    ap (λ (f : IsTrue ((form_of state).fits state.table)). record state { fits = f; facts = facts }) (fits_prop state fits state.fits)
+    ap (λ (f : IsTrue (is_table (keyed_of state) state.table)). record state { fits = f; facts = facts }) (fits_prop state fits state.fits)
     ∙ ap (λ (f : IsLaid (laid_of state)). record state { facts = f }) (laid_prop (laid_of state) facts state.facts)

@@ -1,7 +1,7 @@
 -- The kinds of buckets and of formats, and which of them the copies of a layout have under its key.
-use Rattle.std.specs.Prelude.{ℕ, ◌-◌, min, List, Option, None, map}
+use Rattle.std.specs.Prelude.{ℕ, ◌-◌, ◌==◌, ◌&&◌, Bool, length, min, List, Option, None, map}
 use Rattle.std.specs.List.{range_with_len}
-use Rattle.bb_base.specs.Form.{Form, IsForm}
+use Rattle.bb_base.specs.Form.{Form, IsForm, area_limit}
 use Rattle.bb_flash.specs.Image.{Image}
 use Rattle.bb_flash.specs.declared.geometry.Geometry.{Geometry}
 use Rattle.bb_flash.specs.declared.region.Region.{Region}
@@ -18,10 +18,11 @@ use Rattle.bb_circular.specs.Entries.{closing_len}
 use Rattle.bb_dtbrec.specs.Dtb.{dtb_form}
 use Rattle.bb_dtbrec.specs.Laws.{dtb_laws}
 use Rattle.bb_dtbrec.specs.Layouts.{layout_pattern}
-use Rattle.bb_raw.specs.Laws.{raw_laws}
 use Rattle.bb_raw.specs.Raw.{raw_form}
-use Rattle.bb_layout.specs.Copies.{region_of}
-use Rattle.bb_layout.specs.Layout.{Laid, laid_len}
+use Rattle.bb_raw.specs.RoomLaws.{raw_laws}
+use Rattle.bb_layout.specs.Copies.{region_of, spacing}
+use Rattle.bb_layout.specs.Formats.{record_len}
+use Rattle.bb_layout.specs.Layout.{Laid, recorded_of}
 use Rattle.bb_layout.specs.declared.format_kind.FormatKind.{FormatKind}
 use Rattle.bb_layout.specs.declared.format_kind.FormatKind.TheVariants as formats
 use Rattle.bb_layout.specs.declared.storage.Storage.{Storage}
@@ -48,11 +49,11 @@ any_bucket_laws (OneBlock it) = one_block_laws it
 any_bucket_laws (Circular circle) = circle_laws circle
 
 abbrev pub any_form : AnyFormat → Form
-any_form (Raw kind) = raw_form kind
+any_form (Raw raw) = raw_form raw
 any_form (Dtb pattern) = dtb_form pattern
 
 pub any_format_laws : (format : AnyFormat) → IsForm (any_form format)
-any_format_laws (Raw kind) = raw_laws kind
+any_format_laws (Raw raw) = raw_laws raw
 any_format_laws (Dtb pattern) = dtb_laws pattern
 
 -- how many bytes the longest record of a format has
@@ -99,18 +100,43 @@ buckets_for len layout =
     (bucket_at layout.geometry layout.storage layout.region len)
     (range_with_len 0 layout.copies)
 
--- those for the records of the layout, and their kinds
+-- the regions of all copies, in their order
+abbrev pub laid_regions : Laid → List Region
+laid_regions layout =
+    map
+    (region_of layout.geometry layout.storage layout.region)
+    (range_with_len 0 layout.copies)
+
+-- how many bytes the longest area has that records of a format keep, where there is room: raw
+-- records keep areas of any length, and blobs those of their layout
+abbrev pub longest_area : FormatKind → ℕ → ℕ
+longest_area formats.Raw area_len = area_limit
+longest_area formats.RawHmac area_len = area_limit
+longest_area formats.Dtb area_len = area_len
+
+-- how many bytes the longest record has that the copies of a layout may hold
+abbrev pub longest_len : Laid → ℕ
+longest_len l = record_len l.format (recorded_of l) (longest_area l.format l.area_len)
+
+-- those for the longest record, and their kinds: all layouts of a family have the same
 abbrev pub laid_buckets : Laid → List AnyBucket
-laid_buckets layout = buckets_for (laid_len layout) layout
+laid_buckets layout = buckets_for (longest_len layout) layout
 
 abbrev pub laid_kinds : Laid → List BucketKind
 laid_kinds layout = kinds_of any_holding (laid_buckets layout)
 
 -- ---- of a layout with its key
 
--- raw records of its magic and area, under a key or none
+-- how many bytes a record has room for in a copy's region
+abbrev pub copy_room : Laid → ℕ
+copy_room layout = spacing layout.geometry layout.storage - stride_header_len
+
+-- raw records of its magic that stand in a copy, under a key or none
 abbrev pub raw_under : Option (List ℕ) → Laid → AnyFormat
-raw_under key layout = Raw (record { magic = layout.magic; area_len = layout.area_len; key = key })
+raw_under key layout = Raw (record {
+  kind = record { magic = layout.magic; key = key };
+  room = copy_room layout;
+})
 
 -- records of that format
 abbrev pub format_for : FormatKind → Keyed → AnyFormat
@@ -125,9 +151,13 @@ format_of keyed = format_for keyed.layout.format keyed
 abbrev pub laid_form : Keyed → Form
 laid_form keyed = any_form (format_of keyed)
 
+-- whether an area is a table of the layout: it has the layout's length, and can be kept as a record
+abbrev pub is_table : Keyed → List ℕ → Bool
+is_table keyed area = length area == keyed.layout.area_len && (laid_form keyed).fits area
+
 -- the block of the key of such records, if they stand under one
 abbrev pub key_of_format : AnyFormat → Option (List ℕ)
-key_of_format (Raw kind) = kind.key
+key_of_format (Raw raw) = raw.kind.key
 key_of_format (Dtb pattern) = None
 
 -- what each of its copies passes in an image: an area, or nothing

@@ -16,6 +16,8 @@ pub mod Keyed
 pub mod Kinds
 pub mod Lines
 pub mod Named
+pub mod Shows
 pub mod State
 -- Inside: only private contracts and proofs cite it.
 pub mod Room
+pub mod Stored

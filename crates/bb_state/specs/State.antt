@@ -1,5 +1,7 @@
 -- What a state is to those who load and save it.
-use Rattle.std.specs.Prelude.{◌≡◌, ℕ, Bool, ◌&&◌, not, ⊤, List, Option}
+use Rattle.std.specs.Prelude.{◌≡◌, ℕ, Bool, ◌&&◌, not, List, Option, Some, None, Result}
+use Rattle.std.specs.Prelude.{if◌then◌else◌}
+use Rattle.std.specs.Result.{result_map_both}
 use Rattle.std.specs.Str.{bytes_eq}
 use Rattle.bb_base.specs.Form.{Form}
 use Rattle.bb_flash.specs.Device.{Device, IsDevice}
@@ -9,9 +11,6 @@ use Rattle.bb_copies.specs.Loading.{LoadFails}
 use Rattle.bb_copies.specs.Placing.{AllPlaced}
 use Rattle.bb_copies.specs.Saving as saving
 use Rattle.bb_copies.specs.declared.answers.CopyFault.{CopyFault}
-use Rattle.bb_copies.specs.declared.answers.Loaded.{Loaded}
-use Rattle.bb_copies.specs.declared.answers.Loaded.TheVariants.{Copy, NoCopy}
-use Rattle.bb_layout.specs.Defaults.{defaults_of}
 use Rattle.bb_layout.specs.Layout.{Laid}
 use Rattle.bb_state.specs.Backed.{form_in, kinds_in}
 use Rattle.bb_state.specs.Keyed.{Keyed}
@@ -32,8 +31,12 @@ form_of state = form_in state.backing
 abbrev pub kinds_of : State → List BucketKind
 kinds_of state = kinds_in state.backing
 
--- the table that was last loaded or saved, or what a load that was refused found; and the copy that
--- passed it first, if any did
+-- the area that was last loaded or looked at, as long as it is stored: the empty one where no copy
+-- passed
+abbrev pub stored_of : State → List ℕ
+stored_of state = state.backing.stored
+
+-- the table that was last loaded or saved; and the copy that passed it first, if any did
 abbrev pub last_table_of : State → List ℕ
 last_table_of state = state.backing.kept
 
@@ -68,15 +71,15 @@ FitsEveryDevice state =
 abbrev pub IsPlaced : State → Type 0
 IsPlaced state = AllPlaced any_holding state.backing.buckets
 
--- where no copy passed a load gives the defaults
-abbrev pub IsDefault : Laid → List ℕ → Loaded → Type 0
-IsDefault layout table (Copy used live) = ⊤
-IsDefault layout table NoCopy = table ≡ defaults_of layout.area_len layout.vars
+-- what a look means: where it found a copy, the area that it left, as long as it is stored
+abbrev pub looked_as : List ℕ → Result Bool CopyFault → Result (Option (List ℕ)) CopyFault
+looked_as stored answer =
+    result_map_both (λ found. if found then Some stored else None) (λ e. e) answer
 
--- a load was refused, as the copies refuse it over the area that they found, if they did
-pub record IsRefused (keyed : Keyed) (from to : Device) (fault : CopyFault) : Type 0 where
-  pub area : List ℕ
-  pub fails : LoadFails (laid_form keyed) (laid_kinds keyed.layout) area from to fault
+-- a load was refused, as the copies refuse it
+abbrev pub IsRefused : Keyed → Device → Device → CopyFault → Type 0
+IsRefused keyed from to fault =
+    LoadFails (laid_form keyed) (laid_kinds keyed.layout) from to fault
 
 -- all copies pass the table or nothing, some pass it, and the first that does is used
 abbrev pub IsStored : Keyed → List ℕ → Option ℕ → Device → Device → Type 0

@@ -1,4 +1,5 @@
-ghost use Rattle.std.specs.Prelude.{◌≡◌, ◌<◌, ◌&&◌, IfOk, IsTrue, OnOk, false, is_ok, length};
+ghost use Rattle.std.specs.Prelude.{◌≡◌, ◌<◌, ◌≤◌, ◌&&◌, IfOk, IsTrue, Ok, OnOk, false, is_ok};
+ghost use Rattle.std.specs.Prelude.{length, take, true};
 ghost use Rattle.std.specs.Result.{result_err};
 ghost use Rattle.std.specs.Str.{bytes_eq};
 ghost use Rattle.bb_flash.specs.Device.{Device, IsDevice};
@@ -7,18 +8,20 @@ ghost use Rattle.bb_copies.specs.Loading.{IsLoad, IsLook};
 ghost use Rattle.bb_copies.specs.Placing.{AllPlaced, ReadsNothing};
 ghost use Rattle.bb_copies.specs.Saving.{IsSave};
 ghost use Rattle.bb_copies.specs.Store.{used_after};
+ghost use Rattle.bb_layout.specs.Convert.{convert};
 ghost use Rattle.bb_layout.specs.Layout.{fields_of};
-ghost use Rattle.bb_state.specs.Backed.{form_in, kinds_in};
+ghost use Rattle.bb_state.specs.Backed.{HasItsKinds, form_in, kinds_in};
 ghost use Rattle.bb_state.specs.Keyed.{FitsKey};
-ghost use Rattle.bb_state.specs.Kinds.{any_form, any_holding, bucket_at, buckets_for, format_of};
-ghost use Rattle.bb_state.specs.Kinds.{laid_buckets, longest};
-ghost use Rattle.bb_state.specs.State.{IsDefault};
+ghost use Rattle.bb_state.specs.Kinds.{any_form, any_holding, bucket_at, buckets_for, copy_room};
+ghost use Rattle.bb_state.specs.Kinds.{format_of, is_table, laid_buckets, longest};
+ghost use Rattle.bb_state.specs.Stored.{stored_len_of};
+ghost use Rattle.bb_state.specs.State.{looked_as};
 
 use crate::{AnyBucket, AnyFormat};
-use bb_base::{Format, NoMemory};
-use bb_bucket::{OneBlock, Stride};
+use bb_base::{Format, List, NoMemory};
+use bb_bucket::{FRONT_LEN, OneBlock, Stride};
 use bb_circular::Circular;
-use bb_copies::{BucketList, Copies, CopyFault, Loaded};
+use bb_copies::{Copies, CopyFault, Loaded};
 use bb_dtbrec::Dtb;
 use bb_flash::Flash;
 use bb_hmac::Key;
@@ -27,15 +30,20 @@ use bb_raw::Raw;
 use std::alloc::Global;
 use std::marker::Model;
 
-/// The copies of a layout's area, and the table that they were last known to hold.
+/// The copies of a layout's area, what was last found in them, and the table that they were last
+/// known to hold, as the layout reads it.
 #[derive(Drop)]
 pub(crate) struct Backing {
     layout: Layout,
     copies: Copies<AnyBucket, AnyFormat>,
+    // memory for the longest area that a copy has room for, in front of which the stored one stands
+    memory: Vec<u8>,
+    stored_len: usize,
     kept: Vec<u8>,
 }
 
 impl Model for Backing {
+    ghost use Rattle.std.specs.Prelude.{take};
     ghost use Rattle.bb_layout.specs.Layout.{fields_of};
     ghost use Rattle.bb_state.specs.Backed.{Backed, IsBacked};
     ghost use Rattle.bb_state.specs.Kinds.{key_of_format};
@@ -47,12 +55,13 @@ impl Model for Backing {
       buckets = b.copies.buckets;
       used = b.copies.used;
       sure = b.copies.sure;
+      stored = take b.stored_len b.memory.items;
       kept = b.kept.items;
     } };
 
     ghost invariant = { λ b.
         IsBacked (record { layout = fields_of b.layout; key = key_of_format b.copies.format })
-        b.copies.buckets b.copies.format b.kept.items };
+        b.copies.buckets b.copies.format b.copies.most b.memory.items b.stored_len b.kept.items };
 }
 
 impl Backing {
@@ -74,10 +83,13 @@ impl Backing {
         let format = format_of(alloc, &layout, key)?;
         let most = longest_of(&format);
         let buckets = buckets_of(alloc, &layout, most)?;
-        let copies = Copies::mount(alloc, buckets, format)?;
+        let memory = vec![in alloc; 0u8; format.area_len()]?;
+        let copies = Copies::mount(alloc, buckets, format, layout.area_len)?;
         Ok(Backing {
             layout,
             copies,
+            memory,
+            stored_len: 0,
             kept,
         })
     }
@@ -89,6 +101,20 @@ impl Backing {
         &self.layout
     }
 
+    /// The area that was last loaded or looked at, as long as it is stored.
+    pub(crate) fn stored(&self) -> &[u8]
+        ensures { result.now ≡ self.now.stored }
+    {
+        front(&self.memory, self.stored_len)
+    }
+
+    /// The format of its records.
+    pub(crate) fn format(&self) -> &AnyFormat
+        ensures { result.now ≡ format_of self.now.keyed }
+    {
+        self.copies.format()
+    }
+
     /// The table that was last loaded or saved.
     pub(crate) fn kept_table(&self) -> &[u8]
         ensures kept { result.now ≡ self.now.kept }
@@ -97,26 +123,28 @@ impl Backing {
         self.kept.as_slice()
     }
 
-    /// Loads the copies. The table that they have, or the defaults where no copy passes, is then at
-    /// hand; after a refusal the area that they had, if they had one.
+    /// Loads the copies. The stored area, or the empty one where no copy passes, is then at hand,
+    /// and the table that it is to the layout. After a refusal the table is as before.
     pub(crate) fn load<F: Flash>(&mut self, flash: &mut F) -> Result<Loaded, CopyFault>
         requires geometry { (F.device flash.old).geometry ≡ self.old.keyed.layout.geometry }
         requires agreed { AllAgree any_holding (F.device flash.old) self.old.buckets }
         requires whole { IsDevice (F.device flash.old) }
-        ensures load { IsLoad (form_in self.old) (kinds_in self.old) self.new.kept
+        ensures load { IsLoad (form_in self.old) (kinds_in self.old) self.new.stored
             (F.device flash.old) (F.device flash.new) result }
-        ensures defaults { IfOk result (IsDefault self.old.keyed.layout self.new.kept) }
-        ensures fits { OnOk result (IsTrue ((form_in self.old).fits self.new.kept)) }
+        ensures table { OnOk result (self.new.kept
+            ≡ convert self.old.keyed.layout self.new.stored) }
+        ensures fits { OnOk result (IsTrue (is_table self.old.keyed self.new.kept)) }
         ensures keyed { self.new.keyed ≡ self.old.keyed }
         ensures agrees { AllAgree any_holding (F.device flash.new) self.new.buckets }
         ensures placed { OnOk result (AllPlaced any_holding self.new.buckets) }
         ensures used { IfOk result (λ loaded. self.new.used ≡ used_after loaded) }
         ensures sure { self.new.sure ≡ is_ok result }
     {
-        let loaded = self.copies.load(flash, &mut self.kept)?;
-        if loaded == Loaded::NoCopy {
-            self.layout.defaults(&mut self.kept);
-        }
+        self.stored_len = 0;
+        let loaded = self.copies.load(flash, &mut self.memory)?;
+        self.stored_len = stored_len(loaded);
+        let stored = front(&self.memory, self.stored_len);
+        self.layout.convert(stored, &mut self.kept);
         Ok(loaded)
     }
 
@@ -137,14 +165,16 @@ impl Backing {
         ensures reads { ReadsNothing (F.device flash.old) (F.device flash.new) }
         ensures kept { OnOk result (self.new.kept ≡ table.now) }
         ensures sure { self.new.sure ≡ is_ok result }
+        ensures kinds { HasItsKinds self.new }
     {
         self.copies.save(flash, table)?;
         self.kept.copy_from_slice(table);
         Ok(())
     }
 
-    /// Whether a copy passes, and then the area of the first. Nothing changes on the device. Where
-    /// a copy couldn't be read the copies are unsure.
+    /// Whether a copy passes. Then the stored area of the first is at hand, and what it is to the
+    /// layout in `area`. Nothing changes on the device. Where a copy couldn't be read the copies
+    /// are unsure.
     pub(crate) fn look<F: Flash>(
         &mut self,
         flash: &mut F,
@@ -154,8 +184,10 @@ impl Backing {
         requires agreed { AllAgree any_holding (F.device flash.old) self.old.buckets }
         requires whole { IsDevice (F.device flash.old) }
         requires sized { length area.old ≡ self.old.keyed.layout.area_len }
-        ensures look { IsLook (form_in self.old) (kinds_in self.old) area.new
-            (F.device flash.old) (F.device flash.new) result }
+        ensures look { IsLook (form_in self.old) (kinds_in self.old)
+            (F.device flash.old) (F.device flash.new) (looked_as self.new.stored result) }
+        ensures area { IfOk result (λ found. found ≡ true
+            → area.new ≡ convert self.old.keyed.layout self.new.stored) }
         ensures keyed { self.new.keyed ≡ self.old.keyed }
         ensures agrees { AllAgree any_holding (F.device flash.new) self.new.buckets }
         ensures placed { OnOk result
@@ -164,15 +196,42 @@ impl Backing {
         ensures sure { self.new.sure ≡ (self.old.sure && is_ok result) }
         ensures kept { self.new.kept ≡ self.old.kept }
     {
-        self.copies.look(flash, area)
+        self.stored_len = 0;
+        let found = self.copies.look(flash, &mut self.memory)?;
+        let Some(len) = found else {
+            return Ok(false);
+        };
+        self.stored_len = len;
+        let stored = front(&self.memory, len);
+        self.layout.convert(stored, area);
+        Ok(true)
     }
 
     /// Whether that is known to be this table.
     pub(crate) fn holds(&self, table: &[u8]) -> bool
-        ensures { result ≡ (self.now.sure && bytes_eq table.now self.now.kept) }
+        ensures held { result ≡ (self.now.sure && bytes_eq table.now self.now.kept) }
+        ensures kinds { HasItsKinds self.now }
     {
         self.copies.is_sure() && *table == *self.kept
     }
+}
+
+// How many bytes of the memory are the stored area.
+fn stored_len(loaded: Loaded) -> usize
+    ensures { result ≡ stored_len_of (Ok loaded) }
+{
+    match loaded {
+        Loaded::Copy { len, .. } => len as usize,
+        Loaded::NoCopy => 0,
+    }
+}
+
+// The first bytes, of a number that there are.
+fn front(bytes: &[u8], len: usize) -> &[u8]
+    requires { len ≤ length bytes.now }
+    ensures { result.now ≡ take len bytes.now }
+{
+    &bytes[..len]
 }
 
 // How many bytes the longest record of a format has.
@@ -184,14 +243,10 @@ fn longest_of(format: &AnyFormat) -> usize
 
 #[tactic(auto, using(crate::proofs::Mounting::buckets_more))]
 // Buckets for records of at most so many bytes.
-fn buckets_of(
-    alloc: Global,
-    layout: &Layout,
-    most: usize,
-) -> Result<BucketList<AnyBucket>, NoMemory>
+fn buckets_of(alloc: Global, layout: &Layout, most: usize) -> Result<List<AnyBucket>, NoMemory>
     ensures { IfOk result (λ buckets. buckets ≡ buckets_for most (fields_of layout.now)) }
 {
-    let mut buckets = BucketList::none(alloc);
+    let mut buckets = List::none(alloc);
     for copy in 0..layout.copies {
         buckets.push(bucket_at(alloc, layout, most, copy)?)?;
     }
@@ -220,9 +275,16 @@ fn format_of(alloc: Global, layout: &Layout, key: Option<Key>) -> Result<AnyForm
 {
     match layout.format {
         FormatKind::Raw | FormatKind::RawHmac => {
-            let raw = Raw::of(layout.magic, layout.area_len, key);
+            let raw = Raw::within(layout.magic, key, copy_room(layout));
             Ok(AnyFormat::Raw(raw))
         }
         FormatKind::Dtb => Ok(AnyFormat::Dtb(Dtb::of(alloc, layout)?)),
     }
+}
+
+// How many bytes a record has room for in a copy's region.
+fn copy_room(layout: &Layout) -> u32
+    ensures { result ≡ copy_room (fields_of layout.now) }
+{
+    layout.region(0).size.saturating_sub(FRONT_LEN)
 }

@@ -1,15 +1,15 @@
 ghost use Rattle.bb_layout.specs.Facts.{HasFewNames-prop};
 ghost use Rattle.bb_layout.specs.Kept.{IsLaid};
-ghost use Rattle.bb_state.specs.Backed.{form_in};
+ghost use Rattle.bb_state.specs.Kinds.{is_table};
 ghost use Rattle.std.proofs.Props.{props};
 ghost use Rattle.std.specs.Prelude.{◌≡◌, IfOk, IsTrue, length};
 ghost use Rattle.bb_layout.specs.Defaults.{defaults_of};
 
 use crate::backing::Backing;
-use crate::{StateError, get_value, set_value};
+use crate::{AnyFormat, StateError, get_value, set_value};
 use bb_base::{Bytes, NoMemory};
 use bb_copies::{CopyFault, Loaded};
-use bb_flash::Flash;
+use bb_flash::{Flash, Region};
 use bb_hmac::Key;
 use bb_layout::Layout;
 use bb_vars::Table;
@@ -22,25 +22,30 @@ pub struct State {
     /// The bytes of all variables.
     pub table: Table,
     pub(crate) backing: Backing,
-    pub ghost fits: { IsTrue ((form_in backing).fits table) },
+    pub ghost fits: { IsTrue (is_table backing.keyed table) },
     pub ghost facts: { IsLaid backing.keyed.layout } by { Prim.hlevel (props, HasFewNames-prop) },
 }
 
 impl State {
     ghost use Rattle.std.specs.Prelude.{◌≡◌, ◌&&◌, ◌↔◌, ◌++◌, IfErr, IfOk, IsErrOf, IsOk, None};
-    ghost use Rattle.std.specs.Prelude.{Ok, OnErr, OnOk, Some, false, is_ok, length, true};
+    ghost use Rattle.std.specs.Prelude.{Ok, OnErr, OnOk, Some, false, is_ok, length, nat_lt, true};
+    ghost use Rattle.std.specs.Prelude.{if◌then◌else◌};
     ghost use Rattle.std.specs.Result.{result_err, result_map_both};
     ghost use Rattle.bb_copies.specs.Loading.{IsLoad, IsLook};
     ghost use Rattle.bb_copies.specs.Placing.{ReadsNothing};
     ghost use Rattle.bb_copies.specs.Saving.{IsSave};
     ghost use Rattle.bb_copies.specs.Store.{used_after};
     ghost use Rattle.bb_copies.specs.declared.answers.CopyFault.TheVariants.{Unsure};
+    ghost use Rattle.bb_layout.specs.Copies.{region_of};
+    ghost use Rattle.bb_layout.specs.Convert.{convert};
     ghost use Rattle.bb_layout.specs.Layout.{fields_of};
     ghost use Rattle.bb_layout.specs.Outside.{ChangesVarsAlone};
+    ghost use Rattle.bb_state.specs.Backed.{HasItsKinds};
     ghost use Rattle.bb_state.specs.Keyed.{FitsKey};
+    ghost use Rattle.bb_state.specs.Kinds.{format_of};
     ghost use Rattle.bb_state.specs.Named.{Refuses, after_set, refusal_for, text_for};
-    ghost use Rattle.bb_state.specs.State.{form_of, kinds_of, IsDefault, FitsEveryDevice, IsOn};
-    ghost use Rattle.bb_state.specs.State.{IsPlaced, has_changed, is_kept, is_sure};
+    ghost use Rattle.bb_state.specs.State.{form_of, kinds_of, looked_as, FitsEveryDevice, IsOn};
+    ghost use Rattle.bb_state.specs.State.{IsPlaced, has_changed, is_kept, is_sure, stored_of};
     ghost use Rattle.bb_state.specs.State.{last_table_of, keyed_of, laid_of, used_of};
 
     /// The state of a layout, of which no copy was looked at yet. The table has the defaults. A key
@@ -66,14 +71,46 @@ impl State {
         self.backing.layout()
     }
 
-    /// Reads all copies. The table is then the area of the first that passes, and all copies pass
-    /// it or nothing: those that don't are written. Where no copy passes the table has the
-    /// defaults. After a refusal it is as before.
+    /// The format of its records.
+    pub fn format(&self) -> &AnyFormat
+        ensures { result.now ≡ format_of (keyed_of self.now) }
+    {
+        self.backing.format()
+    }
+
+    /// Where the copy of this number stands, from 0. None exactly from the number of copies on.
+    pub fn region(&self, copy: u32) -> Option<Region>
+        ensures { result ≡ (if nat_lt copy (laid_of self.now).copies
+            then Some (region_of (laid_of self.now).geometry (laid_of self.now).storage
+            (laid_of self.now).region copy) else None) }
+    {
+        let layout = self.layout();
+        if copy < layout.copies {
+            Some(layout.region(copy))
+        } else {
+            None
+        }
+    }
+
+    /// The area that was last loaded or looked at, as long as it is stored: none of its bytes where
+    /// no copy passed.
+    pub fn stored(&self) -> &[u8]
+        ensures { result.now ≡ stored_of self.now }
+    {
+        self.backing.stored()
+    }
+
+    /// Reads all copies. The table is then the area of the first that passes, as the layout reads
+    /// it: the stored area may be shorter or longer, as one that was saved under another layout of
+    /// the family. All copies then pass the stored area or nothing: those that don't are written,
+    /// as it is stored. Where no copy passes the table has the defaults. After a refusal it is as
+    /// before.
     pub fn load<F: Flash>(&mut self, flash: &mut F) -> Result<Loaded, CopyFault>
         requires { IsOn self.old (F.device flash.old) }
-        ensures load { IsLoad (form_of self.old) (kinds_of self.old) (last_table_of self.new)
+        ensures load { IsLoad (form_of self.old) (kinds_of self.old) (stored_of self.new)
             (F.device flash.old) (F.device flash.new) result }
-        ensures defaults { IfOk result (IsDefault (laid_of self.old) self.new.table) }
+        ensures table { OnOk result (self.new.table
+            ≡ convert (laid_of self.old) (stored_of self.new)) }
         ensures unchanged { OnErr result (self.new.table ≡ self.old.table) }
         ensures keyed { keyed_of self.new ≡ keyed_of self.old }
         ensures kept { OnOk result (last_table_of self.new ≡ self.new.table) }
@@ -87,10 +124,11 @@ impl State {
         Ok(loaded)
     }
 
-    /// Saves the table to all copies, where it differs from the one last loaded or saved; after a
-    /// load that found no copy that is the defaults. Otherwise it makes no call of the device.
-    /// Unsure, with no call and nothing changed, where no load answered Ok yet or the last load,
-    /// save or look was refused. A save in which no call fails reads nothing.
+    /// Saves the table to all copies, where it differs from the one last loaded or saved, as the
+    /// layout reads it; after a load that found no copy that is the defaults. Otherwise it makes
+    /// no call of the device. Unsure, with no call and nothing changed, where no load answered Ok
+    /// yet or the last load, save or look was refused. A save in which no call fails reads
+    /// nothing.
     pub fn save<F: Flash>(&mut self, flash: &mut F) -> Result<(), CopyFault>
         requires { IsOn self.old (F.device flash.old) }
         ensures unsure { IsErrOf result Unsure ↔ (is_sure self.old ≡ false) }
@@ -109,6 +147,7 @@ impl State {
         ensures on { IsOn self.new (F.device flash.new) }
         ensures placed { OnOk result (has_changed self.old ≡ true → IsPlaced self.new) }
         ensures reads { ReadsNothing (F.device flash.old) (F.device flash.new) }
+        ensures kinds { HasItsKinds self.new.backing }
     {
         if self.backing.holds(self.table.bytes()) {
             return Ok(());
@@ -131,18 +170,21 @@ impl State {
         ensures on { IsOn self.new (F.device flash.new) }
         ensures placed { OnOk result (IsPlaced self.new) }
         ensures reads { ReadsNothing (F.device flash.old) (F.device flash.new) }
+        ensures kinds { HasItsKinds self.new.backing }
     {
         self.backing.save(flash, self.table.bytes())
     }
 
-    /// Whether a copy passes, and then the area of the first in `area`, which has the layout's
-    /// length. It changes nothing on the device, nor the table. Where a copy couldn't be read what
-    /// the copies pass isn't known any more, and a save is refused as unsure.
+    /// Whether a copy passes, and then the area of the first, as the layout reads it, in `area`,
+    /// which has the layout's length. It changes nothing on the device, nor the table. Where a copy
+    /// couldn't be read what the copies pass isn't known any more, and a save is refused as unsure.
     pub fn look<F: Flash>(&mut self, flash: &mut F, area: &mut [u8]) -> Result<bool, CopyFault>
         requires sized { length area.old ≡ (laid_of self.old).area_len }
         requires on { IsOn self.old (F.device flash.old) }
-        ensures look { IsLook (form_of self.old) (kinds_of self.old) area.new
-            (F.device flash.old) (F.device flash.new) result }
+        ensures look { IsLook (form_of self.old) (kinds_of self.old)
+            (F.device flash.old) (F.device flash.new) (looked_as (stored_of self.new) result) }
+        ensures area { IfOk result (λ found. found ≡ true
+            → area.new ≡ convert (laid_of self.old) (stored_of self.new)) }
         ensures table { self.new.table ≡ self.old.table }
         ensures keyed { keyed_of self.new ≡ keyed_of self.old }
         ensures kept { last_table_of self.new ≡ last_table_of self.old }

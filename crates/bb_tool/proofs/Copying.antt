@@ -3,18 +3,22 @@ use Rattle.std.proofs.Common.{◌≡◌, ◌∙◌, Some, Result, Ok, Err, refl,
 use Rattle.bb_copies.specs.Settling.{NothingFails}
 use Rattle.bb_flash.specs.Device.{Device, content}
 use Rattle.bb_session.specs.Acting.{WorkAnswers}
-use Rattle.bb_plan.specs.Plan.{EarlyEnd, SessionPlan}
+use Rattle.bb_bucket.proofs.Quiet.{keeps_of_quiet}
+use Rattle.bb_plan.specs.Plan.{Compared, Drilled, EarlyEnd, Printed, Refused, SessionPlan}
 use Rattle.bb_plan.specs.declared.refusal.Refusal.TheVariants as refusals
 use Rattle.bb_session.proofs.Exact.{plan_done, plan_makes}
 use Rattle.bb_session.proofs.Faults.{work_explains, write_fault, read_fault}
+use Rattle.bb_session.proofs.Safe.{holds_after, work_safe}
+use Rattle.bb_session.proofs.SlotFaults.{work_lost}
 use Rattle.bb_session.proofs.Works.{has_trails, keeps_outside, leads_on}
-use Rattle.bb_session.specs.Exactly.{CallsExactly, EndsAlike, ErasesExactly, LeavesExactly}
+use Rattle.bb_session.specs.Exactly.{CallsExactly, EndsAlike, ErasesExactly, HoldsInSlot, LeavesAll, LeavesExactly}
+use Rattle.bb_session.specs.Comparing.{CompareAnswer}
 use Rattle.bb_session.specs.Session.{Answers, Session, session_by, work_session}
 use Rattle.bb_session.specs.Work.{IsWork}
 use Rattle.bb_tool.specs.Calls.{MayAnswer, session_for, session_plan_for}
-use Rattle.bb_tool.specs.Copying.{EachCalm, KeepsATrail, KeepsAtExit, KeepsOutsideCopies, KnowsWriteFaults, LeavesUnread}
+use Rattle.bb_tool.specs.Copying.{EachCalm, HoldsWhereDone, InstallsSafely, KeepsATrail, KeepsAtExit, KeepsOutsideCopies, KnowsSlotFaults, KnowsWriteFaults, LeavesUnread}
 use Rattle.bb_tool.specs.Ran.{Ran}
-use Rattle.bb_tool.specs.SessionAnswer.{IsFollowed}
+use Rattle.bb_tool.specs.SessionAnswer.{IsEnded, IsFollowed}
 use Rattle.bb_tool.proofs.Endings.{From, PlanEnd, To}
 
 -- ---- the work of a plan
@@ -42,28 +46,47 @@ pub beside : (ran : Ran) → KeepsOutsideCopies ran
 beside ran answers plan answered is =
     keeps_outside plan ran.before.device ran.after.device answers.load answers.work (work_of ran answers plan answered is)
 
+pub safe_of : (ran : Ran) → InstallsSafely ran
+safe_of ran answers plan answered is =
+    work_safe plan ran.before.device ran.after.device answers.load answers.work (work_of ran answers plan answered is)
+
+pub holds_of : (ran : Ran) → HoldsWhereDone ran
+holds_of ran answers plan answered is done =
+    holds_after plan ran.before.device ran.after.device answers.load answers.work (work_of ran answers plan answered is)
+    (ap (λ (s : Session). s.refusal) (followed_is ran answers plan is) ∙ done)
+
 -- ---- where no call of the device failed
 
--- what is left of copies and blocks
-pub record LeavesAll (plan : PlanEnd) (answers : WorkAnswers) (from to : Device) : Type 0 where
+-- without a work on copies the device is left, but for reads
+pub ended_leaves : (end : EarlyEnd) (from to : Device) (compared : CompareAnswer) → IsEnded end from to compared → LeavesAll end from to
+ended_leaves (Compared place) from to compared done = record { told = done.quiet.told; starts = done.quiet.starts }
+ended_leaves (Printed text) from to compared done = done
+ended_leaves (Drilled numbers) from to compared done = done
+ended_leaves (Refused refusal) from to compared done = done
+
+-- what is left of copies, blocks and the slot
+pub record IsLeft (plan : PlanEnd) (answers : WorkAnswers) (from to : Device) : Type 0 where
   pub left : LeavesExactly plan answers from to
   pub alike : EndsAlike plan answers from to
   pub erased : ErasesExactly plan answers from to
   pub called : CallsExactly plan answers from to
+  pub installed : HoldsInSlot plan answers from to
 
 -- all of it, where the plan was refused
 leaves_all : (plan : PlanEnd) (from to : Device) (answers : Answers) →
-    IsFollowed plan from to answers → NothingFails from to → LeavesAll plan answers.work from to
-leaves_all (Err end) from to answers same calm =
-    record { left = same; alike = same; erased = same; called = same }
+    IsFollowed plan from to answers → NothingFails from to → IsLeft plan answers.work from to
+leaves_all (Err end) from to answers done calm =
+    let same = ended_leaves end from to answers.compared done in
+    record { left = same; alike = same; erased = same; called = same; installed = same }
 leaves_all (Ok plan) from to answers did calm = record {
   left = λ x e z f. (plan_done plan from to answers.load answers.work did calm x z e f).left;
   alike = λ x e z f. (plan_done plan from to answers.load answers.work did calm x z e f).alike;
   erased = λ x e z f. (plan_makes plan from to answers.load answers.work did calm x z e f).erased;
   called = λ x e z f. (plan_makes plan from to answers.load answers.work did calm x z e f).called;
+  installed = λ x e z f. (plan_done plan from to answers.load answers.work did calm x z e f).holds;
 }
 
-pub calm_of : (ran : Ran) → EachCalm ran LeavesAll
+pub calm_of : (ran : Ran) → EachCalm ran IsLeft
 calm_of ran calm answers answered =
     leaves_all (session_plan_for ran answers) (From ran) (To ran) answers answered.followed calm
 
@@ -71,7 +94,10 @@ calm_of ran calm answers answered =
 
 unread_by : (plan : Result SessionPlan EarlyEnd) (from to : Device) (answers : Answers) → IsFollowed plan from to answers →
     (session_by plan answers).refusal ≡ Some refusals.ReadFault → content to ≡ content from
-unread_by (Err end) from to answers done h = ap content done
+unread_by (Err (Compared place)) from to answers done h = (keeps_of_quiet from to done.quiet).content
+unread_by (Err (Printed text)) from to answers done h = ap content done
+unread_by (Err (Drilled numbers)) from to answers done h = ap content done
+unread_by (Err (Refused refusal)) from to answers done h = ap content done
 unread_by (Ok plan) from to answers done h =
     let is = work_explains plan from to answers.load answers.work refusals.ReadFault refl done h in
     read_fault plan from to answers.load answers.work is.fault is.is is.known.explains
@@ -79,6 +105,11 @@ unread_by (Ok plan) from to answers done h =
 pub unread_of : (ran : Ran) → LeavesUnread ran
 unread_of ran answers answered h =
     unread_by (session_plan_for ran answers) ran.before.device ran.after.device answers answered.followed h
+
+pub slot_faults_of : (ran : Ran) → KnowsSlotFaults ran
+slot_faults_of ran answers plan answered is at h =
+    work_lost plan ran.before.device ran.after.device answers.load answers.work at (work_of ran answers plan answered is)
+    (ap (λ (s : Session). s.refusal) (followed_is ran answers plan is) ∙ h)
 
 pub write_faults_of : (ran : Ran) → KnowsWriteFaults ran
 write_faults_of ran answers plan answered is copy h =

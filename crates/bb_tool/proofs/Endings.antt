@@ -13,7 +13,7 @@ use Rattle.bb_words.specs.Words.{words_of}
 use Rattle.bb_words.specs.declared.command.Command.{Command}
 use Rattle.bb_words.specs.declared.command.DrillNumbers.{DrillNumbers}
 use Rattle.bb_plan.specs.FilesRead.{result_by}
-use Rattle.bb_plan.specs.Plan.{Drilled, EarlyEnd, IsRefusedWith, Printed, Refused, SessionPlan, copies_in, planned, words_reading}
+use Rattle.bb_plan.specs.Plan.{Compared, Drilled, EarlyEnd, IsRefusedWith, Printed, Refused, SessionPlan, copies_in, planned, words_reading}
 use Rattle.bb_plan.specs.Refusal.{copy_refusal, status_of}
 use Rattle.bb_plan.specs.Status.{is_planning}
 use Rattle.bb_plan.specs.declared.refusal.Refusal.{Refusal}
@@ -21,14 +21,17 @@ use Rattle.bb_plan.specs.declared.refusal.Refusal.TheVariants as refusals
 use Rattle.bb_plan.specs.declared.status.Status.{Status}
 use Rattle.bb_plan.specs.declared.status.Status.TheVariants as statuses
 use Rattle.bb_plan.proofs.Plans.{IsPlanOf, alone_plan, faulty_plan, plan_refusal, same_plan, words_refused}
-use Rattle.bb_session.specs.Session.{Answers, drill_session, early_session, ended_status, session_by, work_session}
+use Rattle.bb_base.proofs.Counts.{one_more_rose}
+use Rattle.bb_session.specs.Comparing.{CompareAnswer, IsSlotCompared}
+use Rattle.bb_session.specs.Session.{Answers, compare_session, drill_session, early_session, ended_status, session_by, work_session}
 use Rattle.bb_session.specs.Work.{SendsByMemory}
 use Rattle.bb_session.specs.declared.report.Report.{Report}
 use Rattle.bb_session.proofs.Barred.{is_device_fault}
 use Rattle.bb_session.proofs.Ended.{is_work, not_work, worked_work}
 use Rattle.bb_session.proofs.Faulting.{FaultTells}
-use Rattle.bb_session.proofs.Faults.{work_explains}
-use Rattle.bb_tool.specs.Calls.{AsksNothing, ComesByDevice, ComesByFiles, ComesByPlan, ComesByPlanAlone, ComesByReads, ComesBySink, ComesByWords, ComesFirst, CountsSinkFaults, CutsTheText, IsAnswered, IsSession, MayAnswer, NamesACopy, NamesNoFile, NamesTheCopy, SendsText, geometry_of, plan_over, session_for, session_plan_for}
+use Rattle.bb_session.proofs.Faults.{work_explains, work_place, work_stuck}
+use Rattle.bb_tool.specs.Calls.{AsksNothing, ComesByDevice, ComesByFiles, ComesByPlan, ComesByPlanAlone, ComesByReads, ComesBySink, ComesByWords, ComesFirst, CountsSinkFaults, CutsTheText, IsAnswered, IsSession, MayAnswer, NamesNoFile, SendsText, geometry_of, plan_over, session_for, session_plan_for}
+use Rattle.bb_tool.specs.Copying.{NamesACopy, NamesTheCopy, NamesThePlace}
 use Rattle.bb_tool.specs.Drilling.{IsCounted, IsDrilled}
 use Rattle.bb_tool.specs.Lines.{line_of}
 use Rattle.bb_tool.specs.Ran.{Ran}
@@ -49,14 +52,17 @@ pub drill_done : (numbers : DrillNumbers) (drill : Option DrillCounts) → IsCou
 drill_done numbers None counted = absurd counted
 drill_done numbers (Some counts) counted = refl
 
--- where it ends before the device, but not as Done, it is refused
-pub early_refused : (end : EarlyEnd) (drill : Option DrillCounts) (answer : Status) →
-    answer ≢ statuses.Done → IsDrilled (Err end) drill →
-    ended_status (early_session end drill) ≡ answer → IsRefusedWith answer (Err end)
-early_refused (Refused refusal) drill answer other drilled e = e
-early_refused (Printed text) drill answer other drilled e = absurd (other (sym e))
-early_refused (Drilled numbers) drill answer other drilled e =
+-- where it ends without a work on copies, but not as Done, or for a read of a comparison, it is
+-- refused
+pub early_refused : (end : EarlyEnd) (drill : Option DrillCounts) (compared : CompareAnswer) (answer : Status) →
+    answer ≢ statuses.Done → answer ≢ statuses.ReadFault → IsDrilled (Err end) drill →
+    ended_status (early_session end drill compared) ≡ answer → IsRefusedWith answer (Err end)
+early_refused (Refused refusal) drill compared answer other unread drilled e = e
+early_refused (Printed text) drill compared answer other unread drilled e = absurd (other (sym e))
+early_refused (Drilled numbers) drill compared answer other unread drilled e =
     absurd (other (sym e ∙ drill_done numbers drill drilled))
+early_refused (Compared place) drill None answer other unread drilled e = absurd (unread (sym e))
+early_refused (Compared place) drill (Some found) answer other unread drilled e = absurd (other (sym e))
 
 -- so it is for an answer that the work doesn't have
 plan_only : (plan : PlanEnd) (answers : Answers) (answer : Status) → is_work answer ≡ false →
@@ -66,7 +72,8 @@ plan_only (Ok plan) answers answer other drilled e =
     absurd (not_work (status_by (Ok plan) answers) answer work other e)
 plan_only (Err end) answers answer other drilled e =
     let undone : answer ≢ statuses.Done = λ h. not_work statuses.Done answer refl other (sym h) in
-    early_refused end answers.drill answer undone drilled e
+    let unread : answer ≢ statuses.ReadFault = λ h. not_work statuses.ReadFault answer refl other (sym h) in
+    early_refused end answers.drill answers.compared answer undone unread drilled e
 
 pub plan_ends : (plan : PlanEnd) (answers : Answers) (answer : Status) → IsRefusedWith answer plan →
     status_by plan answers ≡ answer
@@ -133,12 +140,13 @@ module _ (ran : Ran) where
       plan_of answers ≡ plan_over ran files
   alone_is files none answers = alone_plan ran.words (geometry_of ran) answers.files files none
 
-  pub unasked_by : (answers : Answers) → MayAnswer ran answers → IsErr (plan_of answers) → To ≡ From
-  unasked_by answers answered = by (plan_of answers) answered.followed
+  pub unasked_by : (answer : Status) (answers : Answers) → MayAnswer ran answers → IsRefusedWith answer (plan_of answers) →
+      To ≡ From
+  unasked_by answer answers answered = by (plan_of answers) answered.followed
     where
-      by : (plan : PlanEnd) → IsFollowed plan From To answers → IsErr plan → To ≡ From
-      by (Ok plan) followed refused = absurd cc
-      by (Err end) followed refused = followed
+      by : (plan : PlanEnd) → IsFollowed plan From To answers → IsRefusedWith answer plan → To ≡ From
+      by (Err (Refused refusal)) followed refused = followed
+      by _ followed refused = absurd refused
 
   -- whatever was answered, or no call of the device was made
   pub by_answers : (P : Type 0) → IsSession ran → (To ≡ From → P) →
@@ -252,7 +260,7 @@ unasked_of ran s h = elim (own_or_first ran s) [
   | inl own ↦
       let refused = own_refused ran ran.status (planning_other ran.status h) own in
       let answers = own.by.answers in
-      unasked_by ran answers own.by.answered (refused_err ran.status (plan_of ran answers) refused)
+      unasked_by ran ran.status answers own.by.answered refused
 ]
 
 -- ---- a fault of the device
@@ -269,12 +277,9 @@ record IsFaulted (ran : Ran) (answers : Answers) (plan : PlanEnd) (answer : Stat
 module _ (ran : Ran) (answer : Status) (late : is_planning answer ≡ false)
     (memory : answer ≢ statuses.NoMemory) (other : answer ≢ statuses.Done)
     (device : is_device_fault answer ≡ true) where
-  faulted_by : (answers : Answers) (plan : PlanEnd) → (IsRefusedWith answer plan → ⊥) →
-      IsDrilled plan answers.drill → IsFollowed plan (From ran) (To ran) answers →
-      status_by plan answers ≡ answer → IsFaulted ran answers plan answer
-  faulted_by answers (Err end) none drilled done h =
-      absurd (none (early_refused end answers.drill answer other drilled h))
-  faulted_by answers (Ok plan) none drilled done h =
+  worked_fault : (answers : Answers) (plan : SessionPlan) → IsFollowed (Ok plan) (From ran) (To ran) answers →
+      status_by (Ok plan) answers ≡ answer → IsFaulted ran answers (Ok plan) answer
+  worked_fault answers plan done h =
       let some = some_refusal (work_session plan answers.load answers.work).refusal answer other h in
       let is = ap is_device_fault some.1.1 ∙ device in
       let why = work_explains plan (From ran) (To ran) answers.load answers.work some.0 is done
@@ -288,13 +293,20 @@ module _ (ran : Ran) (answer : Status) (late : is_planning answer ≡ false)
         tells = why.known.tells;
       }
 
-  faulted : (own : IsOwn ran answer) →
+  faulted_by : answer ≢ statuses.ReadFault → (answers : Answers) (plan : PlanEnd) → (IsRefusedWith answer plan → ⊥) →
+      IsDrilled plan answers.drill → IsFollowed plan (From ran) (To ran) answers →
+      status_by plan answers ≡ answer → IsFaulted ran answers plan answer
+  faulted_by unread answers (Err end) none drilled done h =
+      absurd (none (early_refused end answers.drill answers.compared answer other unread drilled h))
+  faulted_by unread answers (Ok plan) none drilled done h = worked_fault answers plan done h
+
+  faulted : answer ≢ statuses.ReadFault → (own : IsOwn ran answer) →
       IsFaulted ran own.by.answers (plan_of ran own.by.answers) answer
-  faulted own =
+  faulted unread own =
       let by = own.by in
       let files = by.answers.files in
       let none = plan_refusal answer late memory (words_of ran.words) (geometry_of ran) files in
-      faulted_by by.answers (plan_of ran by.answers) none by.answered.drilled by.answered.followed
+      faulted_by unread by.answers (plan_of ran by.answers) none by.answered.drilled by.answered.followed
       own.own
 
 read_told : (keyed : Keyed) (from to : Device) (met : CopyFault) → FaultTells keyed from to met →
@@ -303,13 +315,32 @@ read_told keyed from to faults.ReadFault tells h = tells.1
 read_told keyed from to (faults.WriteFault copy) tells h = absurd cc
 read_told keyed from to faults.Unsure tells h = absurd tells
 
+-- of a work, or of a comparison
+read_rose : (ran : Ran) (answers : Answers) (plan : PlanEnd) → (IsRefusedWith statuses.ReadFault plan → ⊥) →
+    IsDrilled plan answers.drill → IsFollowed plan (From ran) (To ran) answers → status_by plan answers ≡ statuses.ReadFault →
+    Rose (From ran).read_faults (To ran).read_faults
+read_rose ran answers (Ok plan) none drilled done e =
+    let by = worked_fault ran statuses.ReadFault refl (λ h. cc) (λ h. cc) refl answers plan done e in
+    read_told by.work.keyed (From ran) (To ran) by.fault by.tells by.status_is
+read_rose ran answers (Err (Printed text)) none drilled done e = absurd (let h : statuses.Done ≡ statuses.ReadFault = e in cc)
+read_rose ran answers (Err (Drilled numbers)) none drilled done e =
+    absurd (let h : statuses.Done ≡ statuses.ReadFault = sym (drill_done numbers answers.drill drilled) ∙ e in cc)
+read_rose ran answers (Err (Compared place)) none drilled done e = by answers.compared done e
+  where
+    by : (compared : CompareAnswer) → IsSlotCompared place (From ran) (To ran) compared →
+        ended_status (compare_session compared) ≡ statuses.ReadFault → Rose (From ran).read_faults (To ran).read_faults
+    by None done e = subst (Rose (From ran).read_faults) (sym done.read_faults) (one_more_rose (From ran).read_faults)
+    by (Some found) done e = absurd (let h : statuses.Done ≡ statuses.ReadFault = e in cc)
+read_rose ran answers (Err (Refused refusal)) none drilled done e = absurd (none e)
+
 pub read_fault_of : (ran : Ran) → IsSession ran → ran.before.device.read_faults ≤ ran.after.device.read_faults → ComesByReads statuses.ReadFault ran
 read_fault_of ran s later = record {
   later = later;
   rose = λ e.
       let own = own_answer ran s statuses.ReadFault (λ h. cc) (λ h. cc) e in
-      let by = faulted ran statuses.ReadFault refl (λ h. cc) (λ h. cc) refl own in
-      read_told by.work.keyed (From ran) (To ran) by.fault by.tells by.status_is;
+      let answers = own.by.answers in
+      let none = plan_refusal statuses.ReadFault refl (λ h. cc) (words_of ran.words) (geometry_of ran) answers.files in
+      read_rose ran answers (plan_of ran answers) none own.by.answered.drilled own.by.answered.followed own.own;
 }
 
 named_copy : (fault : CopyFault) → status_of (copy_refusal fault) ≡ statuses.WriteFault →
@@ -323,7 +354,7 @@ write_fault_named : (ran : Ran) → IsSession ran → ran.status ≡ statuses.Wr
 write_fault_named ran s e =
     let own = own_answer ran s statuses.WriteFault (λ h. cc) (λ h. cc) e in
     let answers = own.by.answers in
-    let by = faulted ran statuses.WriteFault refl (λ h. cc) (λ h. cc) refl own in
+    let by = faulted ran statuses.WriteFault refl (λ h. cc) (λ h. cc) refl (λ h. cc) own in
     let named = named_copy by.fault by.status_is in
     let tells = subst (FaultTells by.work.keyed (From ran) (To ran)) named.1 by.tells in
     let copy_named : NamesACopy ran = record {
@@ -341,6 +372,61 @@ write_fault_of ran s later = record { later = later; rose = λ e. (write_fault_n
 
 pub copy_of_fault : (ran : Ran) → IsSession ran → NamesTheCopy ran
 copy_of_fault ran s e = (write_fault_named ran s e).0
+
+-- ---- a call on a slot that failed
+
+slot_named : (refusal : Refusal) → status_of refusal ≡ statuses.SlotFault → (at : ℕ) × (refusal ≡ refusals.SlotFault at)
+slot_named (refusals.SlotFault at) h = (at, refl)
+slot_named _ h = absurd cc
+
+-- the place that the line shows is where it began, and a count rose
+record IsStuck (ran : Ran) (answers : Answers) (plan : PlanEnd) : Type 0 where
+  at : ℕ
+  refusal_is : (session_by plan answers).refusal ≡ Some (refusals.SlotFault at)
+  stuck_is : answers.work.stuck ≡ Some at
+  rose : Rose (From ran).faults (To ran).faults
+
+stuck_by : (ran : Ran) (answers : Answers) (plan : PlanEnd) → (IsRefusedWith statuses.SlotFault plan → ⊥) →
+    IsDrilled plan answers.drill → IsFollowed plan (From ran) (To ran) answers → status_by plan answers ≡ statuses.SlotFault →
+    IsStuck ran answers plan
+stuck_by ran answers (Err end) none drilled done e =
+    absurd (none (early_refused end answers.drill answers.compared statuses.SlotFault (λ h. cc) (λ h. cc) drilled e))
+stuck_by ran answers (Ok plan) none drilled done e =
+    let some = some_refusal (work_session plan answers.load answers.work).refusal statuses.SlotFault (λ h. cc) e in
+    let named = slot_named some.0 some.1.1 in
+    let is : (work_session plan answers.load answers.work).refusal ≡ Some (refusals.SlotFault named.0) =
+    some.1.0 ∙ ap (λ (r : Refusal). Some r) named.1 in
+    record {
+      at = named.0;
+      refusal_is = is;
+      stuck_is = work_place plan answers.load answers.work named.0 is;
+      rose = work_stuck plan (From ran) (To ran) answers.load answers.work (refusals.SlotFault named.0) refl refl done is;
+    }
+
+stuck_of : (ran : Ran) (own : IsOwn ran statuses.SlotFault) → IsStuck ran own.by.answers (plan_of ran own.by.answers)
+stuck_of ran own =
+    let answers = own.by.answers in
+    let none = plan_refusal statuses.SlotFault refl (λ h. cc) (words_of ran.words) (geometry_of ran) answers.files in
+    stuck_by ran answers (plan_of ran answers) none own.by.answered.drilled own.by.answered.followed own.own
+
+pub slot_fault_of : (ran : Ran) → IsSession ran → ran.before.device.faults ≤ ran.after.device.faults → ComesByDevice statuses.SlotFault ran
+slot_fault_of ran s later = record {
+  later = later;
+  rose = λ e. (stuck_of ran (own_answer ran s statuses.SlotFault (λ h. cc) (λ h. cc) e)).rose;
+}
+
+pub slot_place_of : (ran : Ran) → IsSession ran → NamesThePlace ran
+slot_place_of ran s e =
+    let own = own_answer ran s statuses.SlotFault (λ h. cc) (λ h. cc) e in
+    let by = stuck_of ran own in
+    record {
+      answers = own.by.answers;
+      answered = own.by.answered;
+      at = by.at;
+      stuck = by.stuck_is;
+      refusal = by.refusal_is;
+      told = subst (SendsText ran (sent_of (session_for ran own.by.answers))) own.own own.by.told;
+    }
 
 -- ---- an output that failed
 

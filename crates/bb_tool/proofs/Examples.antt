@@ -18,6 +18,8 @@ use Rattle.bb_chooser.specs.declared.cause.Cause.TheVariants.{Other, PowerOn}
 use Rattle.bb_copies.specs.Chronicle.{Loaded}
 use Rattle.bb_drill.specs.declared.counts.DrillCounts.{DrillCounts}
 use Rattle.bb_flash.specs.declared.plan.Plan.{Plan as StartPlan}
+use Rattle.bb_layout.specs.declared.format_kind.FormatKind.TheVariants.{Raw}
+use Rattle.bb_layout.specs.declared.storage.Storage.TheVariants.{Stride}
 use Rattle.bb_state.specs.Keyed.{Keyed}
 use Rattle.bb_shell.specs.Rounds.{RoundAnswer, rounds_by}
 use Rattle.bb_shell.specs.Sequence.{save_round}
@@ -49,7 +51,7 @@ abbrev unmade : RoundAnswer
 unmade = record { save = Some (faults.WriteFault 1); starts = false }
 
 abbrev answered : List RoundAnswer → WorkAnswers
-answered rounds = record { rounds = rounds; grants = None }
+answered rounds = record { rounds = rounds; grants = None; stuck = None; listed = [] }
 
 -- ---- sessions, for what was answered
 
@@ -61,7 +63,7 @@ save = codes "raw" ∷ codes "0x12345678" ∷ codes "9" ∷ codes "-s" ∷ codes
 
 -- by the device, where no file is read
 abbrev given : LoadAnswer → List RoundAnswer → Answers
-given load rounds = record { files = []; load = load; work = answered rounds; drill = None }
+given load rounds = record { files = []; load = load; work = answered rounds; drill = None; compared = None }
 
 abbrev saved : Option Refusal → Option CopyFault → Session
 saved refusal fault =
@@ -90,12 +92,12 @@ raw_sessions = (refl, refl, refl, refl, refl, refl, refl)
 abbrev without_tree : List ℕ → Session
 without_tree command =
     session_of (command ∷ codes "-i" ∷ codes "b.dts" ∷ codes "-c" ∷ codes "set.txt" ∷ []) in_place
-    (record { files = Ok None ∷ []; load = Ok None; work = no_answers; drill = None })
+    (record { files = Ok None ∷ []; load = Ok None; work = no_answers; drill = None; compared = None })
 
 abbrev drilling : Option DrillCounts → Session
 drilling counts =
     session_of (codes "drill" ∷ codes "3" ∷ codes "1" ∷ []) in_place
-    (record { files = []; load = Ok None; work = no_answers; drill = counts })
+    (record { files = []; load = Ok None; work = no_answers; drill = counts; compared = None })
 
 abbrev one_session : DrillCounts
 one_session =
@@ -190,47 +192,64 @@ six = made false ∷ made false ∷ made false ∷ made false ∷ made false ∷
 abbrev told : Session → List ℕ × Option Refusal
 told session = (session.text, session.refusal)
 
-module _ (keyed : Keyed) where
-  abbrev boots : Bool → Bool → Cause → List (Option StartPlan) → SessionPlan
-  boots retry power_on cause plans =
-      record { keyed = keyed; work = Boot (two_targets retry power_on) cause plans }
+-- under the layout of such a table, which reads an area of its length as it is
+abbrev keyed : Keyed
+keyed = record {
+  layout = record {
+    name = codes "state";
+    node = codes "state";
+    magic = 0x12345678;
+    format = Raw;
+    storage = Stride 64;
+    geometry = record { size = 1048576; page = 1; block = 0 };
+    region = record { at = 0; size = 192 };
+    copies = 3;
+    area_len = 20;
+    vars = [];
+  };
+  key = None;
+}
 
-  -- where one start is tried, and where another is after one that failed
-  abbrev once : List ℕ → List RoundAnswer → Session
-  once area answers = work_session (boots false false Other both) (Ok (Some area)) (answered answers)
+abbrev boots : Bool → Bool → Cause → List (Option StartPlan) → SessionPlan
+boots retry power_on cause plans =
+    record { keyed = keyed; work = Boot (two_targets retry power_on) cause plans }
 
-  abbrev again : List (Option StartPlan) → List ℕ → List RoundAnswer → Session
-  again plans area answers = work_session (boots true false Other plans) (Ok (Some area)) (answered answers)
+-- where one start is tried, and where another is after one that failed
+abbrev once : List ℕ → List RoundAnswer → Session
+once area answers = work_session (boots false false Other both) (Ok (Some area)) (answered answers)
 
-  -- The first start spends an attempt of the best target, and saves that. Where it fails the target
-  -- is named after the text. Where no entry has a kernel each attempt is tried. Where no attempt is
-  -- left nothing is saved; and a save that is refused comes before its start.
-  starts : (told (once (two 3 3 0) (made true ∷ [])) ≡ (codes "start a left 2 tries 1\n", None))
-      × (saves_of (Some (two 3 3 0)) (once (two 3 3 0) (made true ∷ [])).rounds ≡ two 2 3 1 ∷ [])
-      × (sent_of (once (two 3 3 0) (made false ∷ [])) ≡ codes "tries 1\nfault 11 StartFailed a\n")
-      × (told (again (None ∷ None ∷ []) (two 3 3 0) six)
-      ≡ (codes "tries 6\n", Some (StartFailed (codes "b"))))
-      × (saves_of (Some (two 3 3 0)) (again (None ∷ None ∷ []) (two 3 3 0) six).rounds
-      ≡ two 2 3 1 ∷ two 1 3 1 ∷ two 0 3 1 ∷ two 0 2 2 ∷ two 0 1 2 ∷ two 0 0 2 ∷ [])
-      × (again both (two 0 0 2) [] ≡ refused_for NoTarget)
-      × (sent_of (again both (two 0 0 2) []) ≡ codes "fault 10 NoTarget\n")
-      × (sent_of (again both (two 3 3 0) (unmade ∷ [])) ≡ codes "fault 9 WriteFault 1\n")
-  unfolding rounds_by digits
-  starts = (refl, refl, refl, refl, refl, refl, refl, refl)
+abbrev again : List (Option StartPlan) → List ℕ → List RoundAnswer → Session
+again plans area answers = work_session (boots true false Other plans) (Ok (Some area)) (answered answers)
 
-  -- The turn of a start: one save, which is acknowledged, and the first target is started. That of
-  -- one that wasn't saved. And a reset gives back what the last start spent, so that the spent
-  -- table is stored already.
-  turns : let load : LoadAnswer = Ok (Some (two 3 3 0)) in
-      (turn_of (boots false false Other both) load (answered (made true ∷ [])) (Some 0 ∷ [])
-      ≡ Loaded 0 (two 2 3 1 ∷ []) 1 (Some 0))
-      × (turn_of (boots true false Other both) load (answered (unmade ∷ [])) (Some 0 ∷ [])
-      ≡ Loaded 0 (two 2 3 1 ∷ []) 0 None)
-      × (saves_of (Some (two 2 3 1))
-      (work_session (boots false true PowerOn both) (Ok (Some (two 2 3 1))) (answered (made true ∷ []))).rounds
-      ≡ [])
-  unfolding rounds_by digits
-  turns = (refl, refl, refl)
+-- The first start spends an attempt of the best target, and saves that. Where it fails the target
+-- is named after the text. Where no entry has a kernel each attempt is tried. Where no attempt is
+-- left nothing is saved; and a save that is refused comes before its start.
+starts : (told (once (two 3 3 0) (made true ∷ [])) ≡ (codes "start a left 2 tries 1\n", None))
+    × (saves_of (Some (two 3 3 0)) (once (two 3 3 0) (made true ∷ [])).rounds ≡ two 2 3 1 ∷ [])
+    × (sent_of (once (two 3 3 0) (made false ∷ [])) ≡ codes "tries 1\nfault 11 StartFailed a\n")
+    × (told (again (None ∷ None ∷ []) (two 3 3 0) six)
+    ≡ (codes "tries 6\n", Some (StartFailed (codes "b"))))
+    × (saves_of (Some (two 3 3 0)) (again (None ∷ None ∷ []) (two 3 3 0) six).rounds
+    ≡ two 2 3 1 ∷ two 1 3 1 ∷ two 0 3 1 ∷ two 0 2 2 ∷ two 0 1 2 ∷ two 0 0 2 ∷ [])
+    × (again both (two 0 0 2) [] ≡ refused_for NoTarget)
+    × (sent_of (again both (two 0 0 2) []) ≡ codes "fault 10 NoTarget\n")
+    × (sent_of (again both (two 3 3 0) (unmade ∷ [])) ≡ codes "fault 9 WriteFault 1\n")
+unfolding rounds_by digits
+starts = (refl, refl, refl, refl, refl, refl, refl, refl)
+
+-- The turn of a start: one save, which is acknowledged, and the first target is started. That of
+-- one that wasn't saved. And a reset gives back what the last start spent, so that the spent
+-- table is stored already.
+turns : let load : LoadAnswer = Ok (Some (two 3 3 0)) in
+    (turn_of (boots false false Other both) load (answered (made true ∷ [])) (Some 0 ∷ [])
+    ≡ Loaded 0 (two 2 3 1 ∷ []) 1 (Some 0))
+    × (turn_of (boots true false Other both) load (answered (unmade ∷ [])) (Some 0 ∷ [])
+    ≡ Loaded 0 (two 2 3 1 ∷ []) 0 None)
+    × (saves_of (Some (two 2 3 1))
+    (work_session (boots false true PowerOn both) (Ok (Some (two 2 3 1))) (answered (made true ∷ []))).rounds
+    ≡ [])
+unfolding rounds_by digits
+turns = (refl, refl, refl)
 
 -- an entry that can't be read is named
 unread_entries : let read = result_by (plans_reading (two_targets false false)) in

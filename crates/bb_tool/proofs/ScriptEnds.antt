@@ -14,7 +14,7 @@ use Rattle.bb_plan.specs.declared.status.Status.{Status}
 use Rattle.bb_plan.specs.declared.status.Status.TheVariants as statuses
 use Rattle.bb_plan.proofs.Plans.{plan_refusal}
 use Rattle.bb_session.specs.Scripting.{is_starved, refusal_by_end}
-use Rattle.bb_session.specs.Session.{Answers, LoadAnswer, acts_after, end_by_acts, ended_status, script_end, session_by, work_session}
+use Rattle.bb_session.specs.Session.{Answers, LoadAnswer, acts_after, end_by_acts, ended_status, script_end, session_by, shown, work_session}
 use Rattle.bb_session.proofs.ScriptEnded.{HasPlayed, acted_script, acted_status, end_status, failed_end, failed_status, fault_other, is_scripts, limited_end, plan_front, starved_end}
 use Rattle.bb_tool.specs.Calls.{IsAnswered, IsSession, IsWithoutMemory, SendsText, geometry_of, session_for, session_plan_for}
 use Rattle.bb_tool.specs.Drilling.{IsDrilled}
@@ -34,12 +34,14 @@ Plays plan answers answer = HasPlayed (session_by plan answers) (script_end plan
 -- one with an answer that scripts alone have ran one, or its plan was refused so
 script_or_plan : (plan : PlanEnd) (answers : Answers) (answer : Status) → is_scripts answer ≡ true → answer ≢ statuses.Done →
     IsDrilled plan answers.drill → status_by plan answers ≡ answer → IsRefusedWith answer plan ⊎ Plays plan answers answer
-script_or_plan (Err end) answers answer scripts other drilled e = inl (early_refused end answers.drill answer other drilled e)
+script_or_plan (Err end) answers answer scripts other drilled e =
+    inl
+    (early_refused end answers.drill answers.compared answer other (λ h. false≢true (sym (ap is_scripts h) ∙ scripts)) drilled e)
 script_or_plan (Ok plan) answers answer scripts other drilled e = inr (by answers.load e)
   where
     by : (load : LoadAnswer) → ended_status (work_session plan load answers.work) ≡ answer →
         HasPlayed (work_session plan load answers.work) (script_end (Ok plan) load answers.work) answer
-    by (Ok found) e = acted_script plan found (acts_after plan found) answers.work answer scripts e
+    by (Ok found) e = acted_script plan (shown plan.keyed.layout found) (acts_after plan found) answers.work answer scripts e
     by (Err fault) e = absurd (false≢true (sym (fault_other fault) ∙ ap is_scripts e ∙ scripts))
 
 -- an end of it has its status
@@ -53,7 +55,7 @@ ended_so Ends answer so (Ok plan) answers some = by answers.load some
         ended_status (work_session plan (Ok found) answers.work) ≡ answer
     acted found None is some = absurd some
     acted found (Some end) is some =
-        let has = acted_status plan found (acts_after plan found) answers.work end is in
+        let has = acted_status plan (shown plan.keyed.layout found) (acts_after plan found) answers.work end is in
         has.1 ∙ so end has.0 some
 
     by : (load : LoadAnswer) → IsSomeAnd (script_end (Ok plan) load answers.work) Ends →

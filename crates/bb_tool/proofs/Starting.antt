@@ -1,8 +1,8 @@
 -- What a session says of rounds and starts, from its work.
-use Rattle.std.proofs.Common.{◌≡◌, ℕ, true, List, length, map, Option, Some, None, Ok, Err, refl, sym, ap, subst, ◌∙◌, inl, inr}
+use Rattle.std.proofs.Common.{◌≡◌, ℕ, true, List, length, map, option_map, Option, Some, None, Ok, Err, refl, sym, ap, subst, ◌∙◌, inl, inr}
 use Rattle.std.specs.Option.{ForSome, IsSomeAnd}
 use Rattle.std.specs.Prelude.{unwrap_or}
-use Rattle.bb_copies.specs.StandsFor.{EachPassesOrNothing, first_passed, picked}
+use Rattle.bb_copies.specs.StandsFor.{first_passed, picked}
 use Rattle.bb_copies.proofs.History.{picked_is_first}
 use Rattle.bb_flash.specs.Device.{Device, content, starts}
 use Rattle.bb_flash.specs.declared.plan.Plan.{Plan as StartPlan}
@@ -14,25 +14,31 @@ use Rattle.bb_shell.specs.Rounds.{answer_of}
 use Rattle.bb_shell.specs.Sequence.{AddsBy, AddsLast, started_last}
 use Rattle.bb_shell.specs.declared.outcome.Outcome.{Outcome}
 use Rattle.bb_shell.specs.declared.outcome.Outcome.TheVariants as outcomes
-use Rattle.bb_plan.specs.Plan.{SessionPlan, first_area}
+use Rattle.bb_plan.specs.Plan.{Compared, Drilled, EarlyEnd, Printed, Refused, SessionPlan}
+use Rattle.bb_layout.proofs.Converting.{convert_length}
+use Rattle.bb_layout.specs.Convert.{convert}
+use Rattle.bb_layout.specs.Layout.{Laid}
+use Rattle.bb_shell.specs.Stages.{first_area}
+use Rattle.bb_state.specs.Shows.{EachShowsOrNothing}
 use Rattle.bb_plan.specs.declared.plan.Work.{Work}
 use Rattle.bb_plan.specs.declared.plan.Work.TheVariants.{Boot, Run}
 use Rattle.bb_plan.specs.declared.refusal.Refusal.TheVariants as refusals
 use Rattle.bb_plan.specs.declared.status.Status.TheVariants as statuses
 use Rattle.bb_plan.proofs.Sizes.{IsSizedWork, planned_sized}
 use Rattle.bb_session.specs.Acting.{AreRoundsOf, WorkAnswers, start_plans_of}
-use Rattle.bb_session.specs.Looking.{passed_in}
+use Rattle.bb_session.specs.Comparing.{CompareAnswer}
+use Rattle.bb_session.specs.Looking.{first_found, passed_in}
 use Rattle.bb_session.specs.Session.{Answers, LoadAnswer, Session, acts_after, loaded_area, work_session}
 use Rattle.bb_session.specs.SessionTurns.{EachStanding, turn_of}
 use Rattle.bb_session.specs.Work.{IsLoadedAs, IsTableWork, IsWork}
 use Rattle.bb_session.proofs.Acted.{boot_back, session_rounds}
-use Rattle.bb_session.proofs.Kept.{found_or, load_found, passed_sized}
+use Rattle.bb_session.proofs.Kept.{found_or, load_found}
 use Rattle.bb_session.proofs.Started.{FailsBy, work_cause, work_rounds, work_started, work_stored}
 use Rattle.bb_session.proofs.Turns.{standing_at, told_content}
 use Rattle.bb_tool.specs.Calls.{IsSession, MayAnswer, SendsText, geometry_of, session_for, session_plan_for}
 use Rattle.bb_tool.specs.Ran.{Ran}
 use Rattle.bb_tool.specs.Sending.{sent_of}
-use Rattle.bb_tool.specs.SessionAnswer.{IsFollowed}
+use Rattle.bb_tool.specs.SessionAnswer.{IsEnded, IsFollowed}
 use Rattle.bb_tool.specs.Starting.{BootsInTurn, CountsFailedStarts, IsBoundWork, IsTurnOf, KnowsStartFaults, NamesTheTarget, RunsRounds, StartsAtMostOne, StartsAfterSave, StartsTheLast}
 use Rattle.bb_tool.proofs.Copying.{followed_is, work_of}
 use Rattle.bb_tool.proofs.Endings.{PlanEnd, by_answers, own_answer}
@@ -71,7 +77,7 @@ module _ (ran : Ran) where
       let session = loaded_session answers plan is found load in
       subst
       (λ (s : Session). ForSome (content To)
-      (λ image. EachPassesOrNothing (table_after (loaded_area plan.keyed.layout found) s.rounds) (passed_in plan.keyed From.geometry.page image)))
+      (λ image. EachShowsOrNothing plan.keyed.layout (table_after (loaded_area plan.keyed.layout found) s.rounds) (passed_in plan.keyed From.geometry.page image)))
       session
       (work_stored plan From To found answers.work (loaded_work answers plan answered is found load)
       (ap (λ (s : Session). started_last s.rounds) session ∙ some))
@@ -89,6 +95,13 @@ module _ (ran : Ran) where
       (refusals.StartFailed name) (ap (λ (s : Session). s.refusal) session ∙ refusal) refl)
 
   -- ---- whatever it answered
+
+  -- without a work on copies nothing is started
+  ended_starts : (end : EarlyEnd) (from to : Device) (compared : CompareAnswer) → IsEnded end from to compared → starts to ≡ starts from
+  ended_starts (Compared place) from to compared done = done.quiet.starts.starts
+  ended_starts (Printed text) from to compared done = ap starts done
+  ended_starts (Drilled numbers) from to compared done = ap starts done
+  ended_starts (Refused refusal) from to compared done = ap starts done
 
   some_start : (o : Option StartPlan) → IsSomeAnd o (StartsOnce From To) → (plan : StartPlan) × StartsOnce From To plan
   some_start None h = absurd h
@@ -109,7 +122,7 @@ module _ (ran : Ran) where
   answered_once answers answered (Ok plan) is =
       one_or_none (start_plans_of plan.work) (last_round (session_for ran answers).rounds) (starts_of answers plan answered is)
   answered_once answers answered (Err end) is =
-      inl (ap starts (subst (λ (p : PlanEnd). IsFollowed p From To answers) is answered.followed))
+      inl (ended_starts end From To answers.compared (subst (λ (p : PlanEnd). IsFollowed p From To answers) is answered.followed))
 
   pub starts_once_of : IsSession ran → StartsAtMostOne ran
   starts_once_of s =
@@ -134,35 +147,44 @@ start_failed_of ran s e =
 
 -- ---- the turn of a boot is one of those that the law of starts counts
 
+-- what is read of the area that was found, or of the empty one
+shown_or : (layout : Laid) (found : Option (List ℕ)) → convert layout (unwrap_or found first_area) ≡ loaded_area layout found
+shown_or layout None = refl
+shown_or layout (Some area) = refl
+
 -- no other work is a boot, and no turn without a load
 work_in_turn : (keyed : Keyed) (work : Work) (from to : Device) (load : LoadAnswer) →
     (answers : WorkAnswers) → IsSizedWork work keyed.layout →
     let plan : SessionPlan = record { keyed = keyed; work = work } in
     IsWork plan from to load answers → EachStanding keyed from to
-    (λ first last before. IsTurnOf work before (turn_of plan load answers before.marks))
+    (λ first last before. IsTurnOf keyed.layout work before (turn_of plan load answers before.marks))
 work_in_turn keyed (Boot targets cause plans) from to (Ok found) answers sized done =
     λ first e last f before here stands.
     let plan : SessionPlan = record { keyed = keyed; work = Boot targets cause plans } in
     let work : IsTableWork plan from to (Ok found) answers = done in
-    let none = first_area keyed.layout in
+    let layout = keyed.layout in
     let page = from.geometry.page in
     let passed = passed_in keyed page first.image in
     let table = loaded_area keyed.layout found in
     let gave : IsLoadedAs keyed work.used from work.middle found = work.loaded.gives in
     let told = told_content from first e in
     let held = load_found keyed gave.area gave.loaded from work.middle first.image gave.gave told in
-    let gives : first_passed none passed ≡ table =
-    sym (found_or none passed) ∙ ap (λ o. unwrap_or o none) (sym (gave.taken ∙ held)) in
+    let found_is : found ≡ first_found passed = gave.taken ∙ held in
+    let stored : List ℕ = first_passed first_area passed in
+    let gives : convert layout stored ≡ table =
+    ap (convert layout) (sym (found_or first_area passed) ∙ ap (λ o. unwrap_or o first_area) (sym found_is))
+    ∙ shown_or layout found in
     let standing = standing_at keyed page before first.image here stands in
     let run = work.ran in
     record {
       table = table;
       table_is =
-          picked_is_first none passed before.areas before.acked before.marks standing
+          ap (option_map (convert layout))
+          (picked_is_first first_area passed before.areas before.acked before.marks standing)
           ∙ ap (λ t. Some t) gives;
       sized =
           sym (ap length gives)
-          ∙ passed_sized keyed page first.image sized.layout_is.defaults ∙ sym sized.bound;
+          ∙ convert_length layout.area_len layout.vars stored sized.layout_is.vars ∙ sym sized.bound;
       answers = map answer_of run.rounds;
       turn =
           ap (turn_of_rounds (picked before.marks) (Some table))

@@ -1,5 +1,5 @@
--- The answers that a table brings: no target has the place that is to be marked good, or none
--- qualifies.
+-- The answers that a table brings: no target has the place that is to be marked good, none
+-- qualifies, or none but one.
 use Rattle.std.proofs.Common.{◌≡◌, ◌≢◌, ◌⊎◌, ℕ, ◌==◌, Bool, true, false, List, length, Option, Some, None, IsSome, Ok, Err, refl, sym, ap, subst, ◌∙◌, if◌then◌else◌, inl, inr}
 use Rattle.std.specs.Option.{option_map_or}
 use Rattle.std.specs.Prelude.{option_map}
@@ -27,10 +27,11 @@ use Rattle.bb_plan.specs.declared.refusal.Refusal.TheVariants as refusals
 use Rattle.bb_plan.specs.declared.status.Status.{Status}
 use Rattle.bb_plan.specs.declared.status.Status.TheVariants as statuses
 use Rattle.bb_plan.proofs.Plans.{plan_refusal}
-use Rattle.bb_session.specs.Acting.{Acts, AreRoundsOf, BootsFrom, Plays, Stops, WorkAnswers, play_of, refusal_by_table, rounds_for, start_plans_of}
+use Rattle.bb_session.specs.Acting.{Acts, AreRoundsOf, BootsFrom, Lists, Plays, SavesAround, Stops, WorkAnswers, play_of, refusal_by_table, rounds_for, save_rounds_around, start_plans_of}
+use Rattle.bb_session.specs.Around.{slot_refusal}
 use Rattle.bb_session.specs.Booting.{end_refusal}
 use Rattle.bb_session.specs.Scripting.{refusal_by_end}
-use Rattle.bb_session.specs.Session.{Answers, LoadAnswer, acts_after, barred_after, ended_by, ended_status, load_for, session_by_acts, text_after, work_session, worked_on}
+use Rattle.bb_session.specs.Session.{Answers, LoadAnswer, acts_after, barred_after, ended_by, ended_status, load_for, session_by_acts, shown, text_after, text_unstuck, work_session, worked_on}
 use Rattle.bb_session.specs.Work.{IsWork}
 use Rattle.bb_session.proofs.Acted.{session_after}
 use Rattle.bb_session.proofs.Started.{work_rounds}
@@ -41,10 +42,11 @@ use Rattle.bb_tool.specs.Ran.{Ran}
 use Rattle.bb_tool.specs.SessionAnswer.{IsFollowed}
 use Rattle.bb_tool.proofs.Endings.{From, IsOver, PlanEnd, To, early_refused, over_answer, over_told, plan_of, status_by}
 
--- the two answers
+-- the three answers
 abbrev is_bar : Status → Bool
 is_bar statuses.NoGood = true
 is_bar statuses.NoTarget = true
+is_bar statuses.LastTarget = true
 is_bar _ = false
 
 not_bar : {X : Type 0} (status answer : Status) → is_bar answer ≡ true → is_bar status ≡ false →
@@ -58,7 +60,7 @@ fault_else : (fault : CopyFault) → let status = status_of (copy_refusal fault)
 fault_else faults.ReadFault = (refl, refl)
 fault_else _ = (refl, refl)
 
--- a session that is so refused, or done, has none of the two answers
+-- a session that is so refused, or done, has none of the three answers
 abbrev IsElse : Option Refusal → Type 0
 IsElse refusal = is_bar (option_map_or status_of refusal statuses.Done) ≡ false
 
@@ -107,6 +109,11 @@ play_else script_ends.Fault (Some fault) = (fault_else fault).0
 play_else script_ends.Fault None = refl
 play_else _ fault = refl
 
+-- nor does a call on a slot
+stuck_else : (stuck : Option ℕ) → IsElse (slot_refusal stuck)
+stuck_else None = refl
+stuck_else (Some at) = refl
+
 acted_end : (plan : SessionPlan) (found : Option (List ℕ)) (acts : Acts) (answers : WorkAnswers) →
     let plans = start_plans_of plan.work in
     AreRoundsOf plans acts (rounds_for plans acts answers) →
@@ -114,6 +121,14 @@ acted_end : (plan : SessionPlan) (found : Option (List ℕ)) (acts : Acts) (answ
 acted_end plan found (Plays script known) answers are =
     let play = play_of script known answers in
     inr (play_else (course_end play) (refused_in (course_at play).outside.rounds), inl refl)
+acted_end plan found (SavesAround first place second) answers are =
+    let rounds = save_rounds_around first second answers.stuck answers.rounds in
+    inr (
+      ended_else (refused_in rounds) (text_unstuck answers.stuck (text_after plan found rounds)) (slot_refusal answers.stuck) rounds
+          (stuck_else answers.stuck),
+      inl refl,
+    )
+acted_end plan found Lists answers are = inr (refl, inl refl)
 acted_end plan found acts answers are =
     let plans = start_plans_of plan.work in
     acts_end plan found plans acts (rounds_for plans acts answers) are
@@ -135,9 +150,9 @@ work_ends plan from to (Ok found) answers done image held =
     let status = ended_status (work_session plan (Ok found) answers) in
     subst (λ (f : Option (List ℕ)). EndsBy (refusal_by_table (acts_after plan f)) status)
     (work_gives plan from to found answers done image held)
-    (acted_end plan found (acts_after plan found) answers are)
+    (acted_end plan (shown plan.keyed.layout found) (acts_after plan found) answers are)
 
--- ---- so an answer of the two comes where the table brings it, and only there
+-- ---- so an answer of the three comes where the table brings it, and only there
 
 module _ (answer : Status) (bar : is_bar answer ≡ true) where
   abbrev ComesBy : Option Refusal → Status → Type 0
@@ -161,7 +176,8 @@ module _ (answer : Status) (bar : is_bar answer ≡ true) where
       comes_by _ _ (work_ends plan from to answers.load answers.work done image held)
   by_plan (Err end) from to answers none drilled done image held =
       let h : answer ≢ statuses.Done = λ k. not_bar statuses.Done answer bar refl (sym k) in
-      ((λ e. absurd (none (early_refused end answers.drill answer h drilled e))), (λ k. absurd cc))
+      let unread : answer ≢ statuses.ReadFault = λ k. not_bar statuses.ReadFault answer bar refl (sym k) in
+      ((λ e. absurd (none (early_refused end answers.drill answers.compared answer h unread drilled e))), (λ k. absurd cc))
 
   by_call : is_planning answer ≡ false → answer ≢ statuses.NoMemory → (ran : Ran) (plan : PlanEnd)
       (status : Status) → IsOver ran plan status → (image : Image) →
@@ -200,3 +216,6 @@ no_good_of = barred_of statuses.NoGood refl refl (λ h. cc) (λ h. cc) (λ h. cc
 
 pub no_target_of : (ran : Ran) → IsSession ran → ComesByTable statuses.NoTarget ran
 no_target_of = barred_of statuses.NoTarget refl refl (λ h. cc) (λ h. cc) (λ h. cc)
+
+pub last_target_of : (ran : Ran) → IsSession ran → ComesByTable statuses.LastTarget ran
+last_target_of = barred_of statuses.LastTarget refl refl (λ h. cc) (λ h. cc) (λ h. cc)

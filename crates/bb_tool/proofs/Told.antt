@@ -8,7 +8,7 @@ use Rattle.bb_plan.specs.declared.refusal.Refusal.{Refusal}
 use Rattle.bb_plan.specs.declared.refusal.Refusal.TheVariants as refusals
 use Rattle.bb_plan.specs.declared.status.Status.{Status}
 use Rattle.bb_plan.specs.declared.status.Status.TheVariants as statuses
-use Rattle.bb_session.proofs.Barred.{is_device_fault}
+use Rattle.bb_session.proofs.Barred.{is_call_fault}
 use Rattle.bb_tool.specs.Calls.{CountsSinkFaults, SendsText}
 use Rattle.bb_tool.specs.Ran.{Ran}
 use Rattle.bb_tool.specs.Sending.{IsSent, IsTextCut, status_unsent}
@@ -62,11 +62,12 @@ pub record Tells (refusal : Refusal) : Type 0 where
   pub memory : status_of refusal ≡ statuses.NoMemory → refusal ≡ refusals.NoMemory
   pub target : status_of refusal ≡ statuses.StartFailed → (name : List ℕ) × (refusal ≡ refusals.StartFailed name)
   -- whose line takes memory is no fault of the device
-  pub line : takes_memory refusal ≡ true → is_device_fault (status_of refusal) ≡ false
+  pub line : takes_memory refusal ≡ true → is_call_fault (status_of refusal) ≡ false
 
 pub tells : (refusal : Refusal) → Tells refusal
 tells refusals.ReadFault = record { memory = λ h. absurd cc; target = λ h. absurd cc; line = λ h. absurd cc }
 tells (refusals.WriteFault copy) = record { memory = λ h. absurd cc; target = λ h. absurd cc; line = λ h. absurd cc }
+tells (refusals.SlotFault at) = record { memory = λ h. absurd cc; target = λ h. absurd cc; line = λ h. absurd cc }
 tells (refusals.StartFailed name) = record { memory = λ h. absurd cc; target = λ h. (name, refl); line = λ h. refl }
 tells refusals.NoMemory = record { memory = λ h. refl; target = λ h. absurd cc; line = λ h. refl }
 tells _ = record { memory = λ h. absurd cc; target = λ h. absurd cc; line = λ h. refl }

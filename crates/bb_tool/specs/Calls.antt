@@ -1,12 +1,13 @@
 -- What `run` says of each call: every clause of its contract is one of these facts, and none of
 -- them names a command.
-use Rattle.std.specs.Prelude.{◌≡◌, ◌⊎◌, ◌<◌, ℕ, Bool, true, false, List, Option, Some, None, Result, IsErr, option_map}
+use Rattle.std.specs.Prelude.{◌≡◌, ◌⊎◌, ⊤, ℕ, Bool, true, false, List, Option, Some, None, Result, Ok, Err, IsErr, IsSome, option_map}
 use Rattle.std.specs.Option.{ForSome}
 use Rattle.bb_base.specs.Faults.{HasCause, Rose, one_more}
 use Rattle.bb_base.specs.Folder.{FileMap}
 use Rattle.bb_base.specs.SinkRecord.{SendsFront}
 use Rattle.bb_flash.specs.Cuts.{IsLater}
-use Rattle.bb_flash.specs.Device.{content}
+use Rattle.bb_flash.specs.Device.{Device, content}
+use Rattle.bb_flash.specs.Image.{Image}
 use Rattle.bb_flash.specs.declared.geometry.Geometry.{Geometry}
 use Rattle.bb_script_commands.specs.Playing.{ComeFirst}
 use Rattle.bb_shell.specs.Counting.{target_started}
@@ -14,7 +15,9 @@ use Rattle.bb_words.specs.Words.{words_of}
 use Rattle.bb_drill.specs.declared.counts.DrillCounts.{DrillCounts}
 use Rattle.bb_tool.specs.Drilling.{IsDrilled}
 use Rattle.bb_tool.specs.SessionAnswer.{AreAnswers}
-use Rattle.bb_plan.specs.Plan.{IsRefusedWith, EarlyEnd, SessionPlan, copies_in, names_file, plan_by_words, plan_over_files}
+use Rattle.bb_session.specs.Comparing.{CompareAnswer, IsFoundIn}
+use Rattle.bb_session.specs.Exactly.{LeavesAll}
+use Rattle.bb_plan.specs.Plan.{Compared, IsRefusedWith, EarlyEnd, SessionPlan, names_file, plan_by_words, plan_over_files}
 use Rattle.bb_tool.specs.Ran.{Ran}
 use Rattle.bb_plan.specs.FilesRead.{IsFolderLater, after_file_fault}
 use Rattle.bb_tool.specs.Lines.{line_of}
@@ -108,15 +111,31 @@ IsWhole ran session =
     → (Rose ran.before.sink.faults ran.after.sink.faults → ⊥)
     → IsSent (sent_of session) (ended_status session) ran.before.sink ran.after.sink ran.status
 
+-- what a comparison finds at a device with this content, where a plan makes one
+abbrev pub IsFoundBy :
+    Result SessionPlan EarlyEnd → Geometry → Image → CompareAnswer → Type 0
+IsFoundBy (Err (Compared place)) geometry image answer =
+    IsSome answer × IsFoundIn geometry.page place image answer
+IsFoundBy _ geometry image answer = ⊤
+
+-- Over these files and this content it is the session of both, and of what a comparison finds where
+-- no call of the device failed.
+pub record IsWholeAt (ran : Ran) (files : FileMap) (drill : Option DrillCounts) (image : Image)
+    : Type 0 where
+  pub compared : CompareAnswer
+  pub found :
+      (Rose ran.before.device.faults ran.after.device.faults → ⊥)
+      → IsFoundBy (plan_over ran files) (geometry_of ran) image compared
+  pub whole :
+      IsWhole ran
+      (session_for ran (answers_of ran.words (geometry_of ran) files image drill compared))
+
 -- over these files it is the session of what they and the device hold, and of what a drill counted,
 -- where their plan runs one
 pub record IsWholeFor (ran : Ran) (files : FileMap) : Type 0 where
   pub drill : Option DrillCounts
   pub allowed : IsDrilled (plan_over ran files) drill
-  pub whole :
-      ForSome (content ran.before.device)
-      (λ image.
-      IsWhole ran (session_for ran (answers_of ran.words (geometry_of ran) files image drill)))
+  pub whole : ForSome (content ran.before.device) (IsWholeAt ran files drill)
 
 -- so it is unless memory was refused
 abbrev pub IsWholeOver : Ran → FileMap → Type 0
@@ -148,14 +167,18 @@ KeepsHistory ran = IsLater ran.before.device ran.after.device
 abbrev pub AsksNothing : Ran → Type 0
 AsksNothing ran = is_planning ran.status ≡ true → ran.after.device ≡ ran.before.device
 
--- over files that are told, a session whose plan has no layout makes no call of the device,
--- whatever its answer
+-- over files that are told, a session whose plan has no work on copies leaves the device, whatever
+-- its answer: it makes no call of it, or compares a slot, and then reads alone
+abbrev pub LeavesBy : Result SessionPlan EarlyEnd → Device → Device → Type 0
+LeavesBy (Ok plan) from to = ⊤
+LeavesBy (Err end) from to = LeavesAll end from to
+
 abbrev pub LeavesUnplanned : Ran → Type 0
 LeavesUnplanned ran =
     ForSome ran.before.folder.told
-    (λ files. IsErr (plan_over ran files) → ran.after.device ≡ ran.before.device)
+    (λ files. LeavesBy (plan_over ran files) ran.before.device ran.after.device)
 
--- so it is over any files, where the words name none
+-- where the words name no file it makes no call of the device
 abbrev pub LeavesUnplannedAlone : Ran → Type 0
 LeavesUnplannedAlone ran =
     NamesNoFile ran → (files : FileMap) → IsErr (plan_over ran files)
@@ -183,20 +206,12 @@ CountsFileFaults ran =
 
 -- ---- each answer and its cause
 
--- where the words name no file, and the plan has no layout and isn't refused, the answer is Done,
--- but for a failing output and refused memory
-abbrev pub EndsDoneAlone : Ran → Type 0
-EndsDoneAlone ran =
-    NamesNoFile ran → (files : FileMap) → IsErr (plan_over ran files)
-    → ((answer : Status) → IsRefusedWith answer (plan_over ran files) → ⊥)
-    → (ran.status ≡ statuses.Done)
-    ⊎ ((ran.status ≡ statuses.SinkFault) ⊎ (ran.status ≡ statuses.NoMemory))
-
 -- the statuses that a fault of the files, the device or the output brings
 abbrev pub is_fault_status : Status → Bool
 is_fault_status statuses.FileFault = true
 is_fault_status statuses.ReadFault = true
 is_fault_status statuses.WriteFault = true
+is_fault_status statuses.SlotFault = true
 is_fault_status statuses.SinkFault = true
 is_fault_status _ = false
 
@@ -263,18 +278,6 @@ ComesByDevice answer ran =
 abbrev pub ComesByReads : Status → Ran → Type 0
 ComesByReads answer ran =
     HasCause ran.before.device.read_faults ran.after.device.read_faults (ran.status ≡ answer)
-
--- the copy that couldn't be written is one of the layout's
-pub record NamesACopy (ran : Ran) : Type 0 where
-  pub answers : Answers
-  pub answered : MayAnswer ran answers
-  pub copy : ℕ
-  pub inside : copy < copies_in (session_plan_for ran answers)
-  pub refusal : (session_for ran answers).refusal ≡ Some (refusals.WriteFault copy)
-  pub told : SendsText ran (sent_of (session_for ran answers)) statuses.WriteFault
-
-abbrev pub NamesTheCopy : Ran → Type 0
-NamesTheCopy ran = ran.status ≡ statuses.WriteFault → NamesACopy ran
 
 -- some front of the text of a session was sent
 pub record SendsSessionFront (ran : Ran) : Type 0 where

@@ -1,7 +1,7 @@
 -- The clauses of `run`, in the order of its contract: each is a record of named facts about one
 -- call, and none of them names a command.
-use Rattle.bb_tool.specs.Calls.{AsksNothing, ComesByDevice, ComesByFiles, ComesByPlan, ComesByPlanAlone, ComesByReads, ComesBySink, ComesByTable, ComesByWords, CountsFileFaults, CountsSinkFaults, CutsTheText, IsSession, IsUndisturbed, IsUndisturbedAlone, KeepsFiles, KeepsHistory, LeavesUnnamedFiles, NamesTheCopy, WantsMemory, EndsDoneAlone, LeavesUnplanned, LeavesUnplannedAlone}
-use Rattle.bb_tool.specs.Copying.{KeepsATrail, KeepsAtExit, KeepsOutsideCopies, KnowsWriteFaults, LeavesUnread, MakesAlike, MakesNoOtherCall, StopsAtFileFault, StopsBetweenSaves, WearsExactly, WritesExactly}
+use Rattle.bb_tool.specs.Calls.{AsksNothing, ComesByDevice, ComesByFiles, ComesByPlan, ComesByPlanAlone, ComesByReads, ComesBySink, ComesByTable, ComesByWords, CountsFileFaults, CountsSinkFaults, CutsTheText, IsSession, IsUndisturbed, IsUndisturbedAlone, KeepsFiles, KeepsHistory, LeavesUnnamedFiles, WantsMemory, LeavesUnplanned, LeavesUnplannedAlone}
+use Rattle.bb_tool.specs.Copying.{EndsDoneAlone, HoldsWhereDone, InstallsSafely, KeepsATrail, KeepsAtExit, KeepsOutsideCopies, KnowsSlotFaults, KnowsWriteFaults, LeavesUnread, MakesAlike, MakesNoOtherCall, MakesTheSlot, NamesTheCopy, NamesThePlace, StopsAtFileFault, StopsBetweenSaves, WearsExactly, WritesExactly}
 use Rattle.bb_tool.specs.Ran.{Ran}
 use Rattle.bb_tool.specs.ScriptEnds.{ComesByEnd, IsFailedEnd, IsLimitedEnd, ShowsTheStatus}
 use Rattle.bb_tool.specs.Starting.{BootsInTurn, CountsFailedStarts, KnowsStartFaults, NamesTheTarget, RunsRounds, StartsAtMostOne, StartsAfterSave, StartsTheLast}
@@ -26,9 +26,9 @@ pub record LeavesTheRest (ran : Ran) : Type 0 where
   pub later : KeepsHistory ran
   -- a refusal that comes before the work on the device comes without any call of it
   pub unasked : AsksNothing ran
-  -- so does whatever a plan without a layout ends in, over files that are told
+  -- whatever a plan without a work on copies ends in leaves the device, over files that are told
   pub unplanned : LeavesUnplanned ran
-  -- and over any files, where the words name none
+  -- and where the words name no file it comes without any call of it
   pub unplanned_alone : LeavesUnplannedAlone ran
 
 -- what became of the copies, whatever failed
@@ -37,8 +37,12 @@ pub record KeepsTheCopies (ran : Ran) : Type 0 where
   pub exit : KeepsAtExit ran
   -- each image on the way stands for a stage that was reached, or for a later one
   pub trail : KeepsATrail ran
-  -- outside of them nothing changes, in any image
+  -- outside of them, and of the slot that is written, nothing changes, in any image
   pub outside : KeepsOutsideCopies ran
+  -- whatever cut comes, the slot that is written is untouched or whole, or its target is disabled
+  pub safe : InstallsSafely ran
+  -- and where the session is done it holds its image
+  pub holds : HoldsWhereDone ran
 
 -- where nothing failed
 pub record WorksUndisturbed (ran : Ran) : Type 0 where
@@ -52,6 +56,8 @@ pub record WorksUndisturbed (ran : Ran) : Type 0 where
   pub erased : WearsExactly ran
   -- and no other call changes the device
   pub called : MakesNoOtherCall ran
+  -- the slot that is written holds its image, and nothing else
+  pub installed : MakesTheSlot ran
   -- every copy passes the area that was loaded or saved last
   pub passes : MakesAlike ran
 
@@ -107,6 +113,11 @@ pub record KnowsItsCauses (ran : Ran) : Type 0 where
   pub bad_settings : ComesByPlan statuses.BadSettings ran
   -- so does BadScript
   pub bad_script : ComesByPlan statuses.BadScript ran
+  -- so do BadTarget, BadSlot, ImageTooLong and BadDigest
+  pub bad_target : ComesByPlan statuses.BadTarget ran
+  pub bad_slot : ComesByPlan statuses.BadSlot ran
+  pub image_too_long : ComesByPlan statuses.ImageTooLong ran
+  pub bad_digest : ComesByPlan statuses.BadDigest ran
   -- ReadFault comes only where the device's count of failed reads rose
   pub read_fault : ComesByReads statuses.ReadFault ran
   -- and then the device holds what it held at entry
@@ -121,6 +132,15 @@ pub record KnowsItsCauses (ran : Ran) : Type 0 where
   pub no_good : ComesByTable statuses.NoGood ran
   -- NoTarget comes, but for faults, exactly where no target qualifies in the table at entry
   pub no_target : ComesByTable statuses.NoTarget ran
+  -- LastTarget comes, but for faults, exactly where the table at entry has no other target that
+  -- qualifies
+  pub last_target : ComesByTable statuses.LastTarget ran
+  -- SlotFault comes only where the device's count of faults rose
+  pub slot_fault : ComesByDevice statuses.SlotFault ran
+  -- and shows where the call on the slot began that failed
+  pub slot_fault_place : NamesThePlace ran
+  -- where a copy passes at exit, more calls failed than there are copies that pass nothing
+  pub slot_fault_cause : KnowsSlotFaults ran
   -- StartFailed names a target
   pub start_failed : NamesTheTarget ran
   -- which has no plan, or a start failed

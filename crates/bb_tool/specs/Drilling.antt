@@ -5,7 +5,7 @@ use Rattle.bb_drill.specs.Draws.{draws_of}
 use Rattle.bb_drill.specs.Drill.{CountsDraws}
 use Rattle.bb_drill.specs.declared.counts.DrillCounts.{DrillCounts}
 use Rattle.bb_drill_sessions.specs.Undisturbed.{session_runs}
-use Rattle.bb_plan.specs.Plan.{Drilled, EarlyEnd, Printed, Refused, SessionPlan}
+use Rattle.bb_plan.specs.Plan.{Compared, Drilled, EarlyEnd, Printed, Refused, SessionPlan}
 use Rattle.bb_session.specs.DrillLine.{drill_line}
 use Rattle.bb_session.specs.declared.report.Report.{Report}
 use Rattle.bb_words.specs.declared.command.DrillNumbers.{DrillNumbers}
@@ -23,6 +23,7 @@ abbrev pub IsDrilled : Result SessionPlan EarlyEnd → Option DrillCounts → Ty
 IsDrilled (Ok plan) drill = drill ≡ None
 IsDrilled (Err (Printed text)) drill = drill ≡ None
 IsDrilled (Err (Drilled numbers)) drill = IsCounted numbers drill
+IsDrilled (Err (Compared place)) drill = drill ≡ None
 IsDrilled (Err (Refused refusal)) drill = drill ≡ None
 
 -- the report of a drill is the line of what it counted

@@ -10,6 +10,9 @@ use Rattle.bb_fdt.specs.declared.error.Field.{Field}
 use Rattle.bb_fdt.specs.declared.error.Field.TheVariants as fields
 use Rattle.bb_hmac.specs.declared.error.KeyError.{KeyError}
 use Rattle.bb_hmac.specs.declared.error.KeyError.TheVariants as key_errors
+use Rattle.hex.specs.Hex.{encode_lower}
+use Rattle.bb_install.specs.declared.slot_error.SlotError.{SlotError}
+use Rattle.bb_install.specs.declared.slot_error.SlotError.TheVariants as slot_errors
 use Rattle.bb_layout.specs.declared.layout_error.LayoutError.{LayoutError}
 use Rattle.bb_layout.specs.declared.layout_error.LayoutError.TheVariants as layout_errors
 use Rattle.bb_script.specs.declared.error.ScriptError.{ScriptError}
@@ -111,6 +114,14 @@ abbrev pub key_words : KeyError → List ℕ
 key_words key_errors.Empty = codes "Empty"
 key_words (key_errors.BadHex place) = codes "BadHex"
 
+-- the words for a device without a slot of a label
+abbrev pub slot_words : SlotError → List ℕ
+slot_words slot_errors.NoSlot = codes "NoSlot"
+slot_words slot_errors.BadReg = codes "BadReg"
+slot_words slot_errors.Unaligned = codes "Unaligned"
+slot_words slot_errors.OutOfDevice = codes "OutOfDevice"
+slot_words slot_errors.Overlap = codes "Overlap"
+
 -- what the line says after the name of the status: words are counted from 1, copies from 0
 abbrev pub spaced : List ℕ → List ℕ
 spaced words = codes " " ++ words
@@ -130,6 +141,12 @@ detail_of (refusals.BadSettings e) = spaced (settings_words e)
 detail_of (refusals.BadScript e) = spaced (script_words e)
 detail_of (refusals.ScriptFailed status) = spaced (decimal status)
 detail_of refusals.StepLimit = []
+detail_of (refusals.BadTarget name) = spaced name
+detail_of (refusals.BadSlot e) = spaced (slot_words e)
+detail_of (refusals.ImageTooLong len) = spaced (decimal len)
+detail_of (refusals.BadDigest digest) = spaced (encode_lower digest)
+detail_of (refusals.LastTarget name) = spaced name
+detail_of (refusals.SlotFault at) = spaced (decimal at)
 detail_of refusals.ReadFault = []
 detail_of (refusals.WriteFault copy) = spaced (decimal copy)
 detail_of refusals.NoTarget = []

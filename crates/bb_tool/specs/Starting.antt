@@ -5,7 +5,9 @@ use Rattle.std.specs.Option.{ForSome}
 use Rattle.bb_base.specs.Faults.{Rose}
 use Rattle.bb_chooser.specs.Binding.{IsBinding}
 use Rattle.bb_copies.specs.Chronicle.{Content, Turn}
-use Rattle.bb_copies.specs.StandsFor.{EachPassesOrNothing}
+use Rattle.bb_layout.specs.Convert.{convert}
+use Rattle.bb_layout.specs.Layout.{Laid}
+use Rattle.bb_state.specs.Shows.{EachShowsOrNothing}
 use Rattle.bb_flash.specs.Device.{content, starts}
 use Rattle.bb_flash.specs.declared.plan.Plan.{Plan as StartPlan}
 use Rattle.bb_shell.specs.Boot.{last_round, plan_at, table_after}
@@ -45,13 +47,14 @@ RunsRounds ran =
     AreRoundsOf (start_plans_of plan.work) (acts_of plan.keyed.layout plan.work table)
     (session_for ran answers).rounds)
 
--- A boot did what the law of starts takes for a boot: where its load answered Ok, the table that it
--- gave stands at the turn's place of the list and has the area's length, and the turn is that of
--- the rounds that come of some answers. No other work is a boot: that law says nothing of a script,
--- which may set attempts as it likes.
-abbrev pub IsTurnOf : Work → Content → Turn → Type 0
-IsTurnOf (Boot targets cause plans) before turn = IsBootTurn targets cause plans before turn
-IsTurnOf _ before turn = ⊤
+-- A boot did what the law of starts takes for a boot: where its load answered Ok, the area at the
+-- turn's place of the list shows the table that it gave, which has the area's length, and the turn
+-- is that of the rounds that come of some answers. No other work is a boot: that law says nothing
+-- of a script, which may set attempts as it likes.
+abbrev pub IsTurnOf : Laid → Work → Content → Turn → Type 0
+IsTurnOf layout (Boot targets cause plans) before turn =
+    IsBootTurn targets cause plans (convert layout) before turn
+IsTurnOf layout _ before turn = ⊤
 
 -- and its targets are bound as that law takes them: their variables are in the area, and no two of
 -- them share a byte
@@ -67,7 +70,7 @@ pub record BootsByPlan (ran : Ran) (plan : SessionPlan) (answers : Answers) : Ty
   pub turns :
       EachStanding plan.keyed ran.before.device ran.after.device
       (λ first last before.
-      IsTurnOf plan.work before (turn_of plan answers.load answers.work before.marks))
+      IsTurnOf plan.keyed.layout plan.work before (turn_of plan answers.load answers.work before.marks))
 
 abbrev pub BootsInTurn : Ran → Type 0
 BootsInTurn ran = EachWork ran (BootsByPlan ran)
@@ -89,7 +92,7 @@ StartsAtMostOne ran =
     (starts ran.after.device ≡ starts ran.before.device)
     ⊎ ((plan : StartPlan) × StartsOnce ran.before.device ran.after.device plan)
 
--- where a start was made every copy passes the table of its round or nothing
+-- where a start was made every copy passes an area that shows the table of its round, or nothing
 abbrev pub StartsAfterSave : Ran → Type 0
 StartsAfterSave ran =
     EachLoaded ran
@@ -97,7 +100,7 @@ StartsAfterSave ran =
     started_last (session_for ran answers).rounds ≡ true →
     ForSome (content ran.after.device)
     (λ image.
-    EachPassesOrNothing (table_after table (session_for ran answers).rounds)
+    EachShowsOrNothing plan.keyed.layout (table_after table (session_for ran answers).rounds)
     (passed_in plan.keyed ran.before.device.geometry.page image)))
 
 -- The count of failed starts rose by exactly the rounds whose start failed: their target has a

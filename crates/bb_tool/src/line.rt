@@ -2,16 +2,19 @@ ghost use Rattle.std.specs.Prelude.{◌≡◌, ◌≤◌, ◌++◌, true, IfOk, 
 ghost use Rattle.std.specs.Prelude.{length, string_bytes};
 ghost use Rattle.bb_tool.specs.Lines.{blob_words, fault_text, field_name, key_words};
 ghost use Rattle.bb_tool.specs.Lines.{detail_of, layout_words, line_of, script_words};
-ghost use Rattle.bb_tool.specs.Lines.{settings_words, spaced};
+ghost use Rattle.bb_tool.specs.Lines.{settings_words, slot_words, spaced};
 ghost use Rattle.bb_tool.specs.Lines.{tree_words, value_words, variable_words};
+ghost use Rattle.hex.specs.Hex.{encode_lower};
 ghost use Rattle.bb_plan.specs.Refusal.{takes_memory};
 ghost use Rattle.bb_plan.specs.Status.{status_name};
 
 use arrayvec::ArrayString;
+use bb_base::Bytes;
 use bb_chooser::SettingsError;
 use bb_dts::DtsError;
 use bb_fdt::{FdtError, Field};
 use bb_hmac::KeyError;
+use bb_install::SlotError;
 use bb_layout::LayoutError;
 use bb_plan::{Refusal, Status};
 use bb_script::ScriptError;
@@ -45,6 +48,7 @@ pub(crate) fn fixed_line(refusal: &Refusal) -> Option<ShortLine>
         Refusal::NoGood(place) => Some(numbered_line(status, *place)),
         Refusal::ScriptFailed(ended) => Some(numbered_line(status, *ended)),
         Refusal::StepLimit => Some(fault_line(status, status.name())),
+        Refusal::SlotFault(at) => Some(numbered_line(status, *at)),
         Refusal::NoMemory => Some(fault_line(status, status.name())),
         Refusal::BadWords(_) | Refusal::BadTree(_) | Refusal::BadBlob(_) => None,
         Refusal::BadLayout(_) => None,
@@ -52,6 +56,8 @@ pub(crate) fn fixed_line(refusal: &Refusal) -> Option<ShortLine>
         Refusal::FileMissing(_) | Refusal::FileFault(_) | Refusal::FileTooLong(_) => None,
         Refusal::StartFailed(_) | Refusal::BadSettings(_) | Refusal::BadScript(_) => None,
         Refusal::NoKey | Refusal::BadKey(_) => None,
+        Refusal::BadTarget(_) | Refusal::BadSlot(_) | Refusal::LastTarget(_) => None,
+        Refusal::ImageTooLong(_) | Refusal::BadDigest(_) => None,
     }
 }
 
@@ -103,6 +109,12 @@ fn detail(alloc: Global, refusal: &Refusal) -> Result<String, AllocError>
         ),
         Refusal::BadSettings(error) => settings_words(alloc, error),
         Refusal::BadScript(error) => script_words(alloc, *error),
+        Refusal::BadTarget(name) => format!(in alloc; " {}", name.as_str()),
+        Refusal::BadSlot(error) => format!(in alloc; " {}", slot_words(*error)),
+        Refusal::ImageTooLong(number) => format!(in alloc; " {number}"),
+        Refusal::BadDigest(digest) => digest_words(alloc, digest),
+        Refusal::LastTarget(name) => format!(in alloc; " {}", name.as_str()),
+        Refusal::SlotFault(number) => format!(in alloc; " {number}"),
         Refusal::WriteFault(number) => format!(in alloc; " {number}"),
         Refusal::NoGood(number) => format!(in alloc; " {number}"),
         Refusal::ScriptFailed(number) => format!(in alloc; " {number}"),
@@ -110,6 +122,27 @@ fn detail(alloc: Global, refusal: &Refusal) -> Result<String, AllocError>
         Refusal::ReadFault | Refusal::NoTarget | Refusal::NoMemory => String::from_str(alloc, ""),
         Refusal::StepLimit => String::from_str(alloc, ""),
     }
+}
+
+// Why there is no slot.
+fn slot_words(error: SlotError) -> &'static str
+    ensures { result.now ≡ slot_words error }
+{
+    match error {
+        SlotError::NoSlot => "NoSlot",
+        SlotError::BadReg => "BadReg",
+        SlotError::Unaligned => "Unaligned",
+        SlotError::OutOfDevice => "OutOfDevice",
+        SlotError::Overlap => "Overlap",
+    }
+}
+
+// A digest in hexadecimal.
+fn digest_words(alloc: Global, digest: &Bytes) -> Result<String, AllocError>
+    ensures { IfOk result (λ words. string_bytes words ≡ spaced (encode_lower digest.now)) }
+{
+    let digits = hex::encode(alloc, digest.as_slice())?;
+    format!(in alloc; " {}", digits.as_str())
 }
 
 // Why a variable doesn't fit.

@@ -15,7 +15,7 @@ use crate::send::{send_refusal, send_report};
 use bb_base::{Files, Sink, TextList};
 use bb_flash::Board;
 use bb_plan::{PlannedTask, Refusal, Status, plan_session};
-use bb_session::{Report, do_work};
+use bb_session::{Report, compare, do_work};
 use std::alloc::Global;
 
 /// One session, over files, a device and an output: the words after the device and its geometry,
@@ -105,5 +105,6 @@ fn do_task<B: Board>(alloc: Global, board: &mut B, task: PlannedTask) -> Result<
         PlannedTask::OnCopies(plan) => do_work(alloc, board, plan),
         PlannedTask::Prints(text) => Ok(Report::done(text)),
         PlannedTask::Drills(numbers) => drill_report(alloc, numbers),
+        PlannedTask::Compares(place) => compare(alloc, board, &place),
     }
 }

@@ -1,5 +1,5 @@
 use crate::PartList;
-use bb_base::Text;
+use bb_base::{List, Text};
 
 /// A property of a draft's node.
 #[derive(Debug, Drop)]
@@ -8,3 +8,6 @@ pub struct DraftProp {
     /// The pieces of the value, none for a property without a value.
     pub parts: PartList,
 }
+
+/// The properties of a draft's node, in their order.
+pub type DraftPropList = List<DraftProp>;

@@ -1,4 +1,4 @@
-use bb_base::{Bytes, Text};
+use bb_base::{Bytes, List, Text};
 
 /// A piece of a draft's value. A value is its pieces joined.
 #[derive(Debug, Drop)]
@@ -18,3 +18,6 @@ pub enum Part {
         at: usize,
     },
 }
+
+/// The pieces of a draft's value, in their order.
+pub type PartList = List<Part>;

@@ -1,4 +1,4 @@
-use bb_base::{Bytes, Text};
+use bb_base::{Bytes, List, Text};
 
 /// A property of a node.
 #[derive(Debug, Drop)]
@@ -7,3 +7,6 @@ pub struct Prop {
     /// The value's bytes, none for a property without a value.
     pub value: Bytes,
 }
+
+/// The properties of a node, in their order.
+pub type PropList = List<Prop>;

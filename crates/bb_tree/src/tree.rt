@@ -1,7 +1,11 @@
 ghost use Rattle.std.specs.Prelude.{◌≡◌};
 
+use crate::Node;
 use crate::find::{find_behind, first_with};
-use crate::{Node, PairList};
+use bb_base::List;
+
+/// Reserved pairs of a place and a length, in their order.
+pub type PairList = List<(u64, u64)>;
 
 /// A whole tree: its root, and the reserved pairs of a place and a length.
 #[derive(Debug, Drop)]

@@ -1,10 +1,10 @@
 -- Words by computation.
-use Rattle.std.proofs.Common.{◌≡◌, ℕ, List, [], ◌∷◌, Option, Some, None, Ok, Err, codes, refl}
+use Rattle.std.proofs.Common.{◌≡◌, ℕ, List, [], ◌∷◌, ◌++◌, Option, Some, None, Ok, Err, codes, refl, replicate}
 use Rattle.hex.specs.Hex.{decode_pairs}
 use Rattle.bb_words.specs.declared.command.CauseWord.{CauseWord}
 use Rattle.bb_words.specs.declared.command.CauseWord.TheVariants.{PowerOn, Reset, Other}
 use Rattle.bb_words.specs.declared.command.Command.{Command}
-use Rattle.bb_words.specs.declared.command.Command.TheVariants.{State, MarkGood, Boot, Shell, Menu}
+use Rattle.bb_words.specs.declared.command.Command.TheVariants.{State, MarkGood, Boot, Shell, Install, Verify, Menu, History}
 use Rattle.bb_words.specs.declared.command.Action.{Action}
 use Rattle.bb_words.specs.declared.command.Action.TheVariants.{Set, Get, Dump, DumpShell}
 use Rattle.bb_words.specs.declared.command.RawAction.TheVariants.{Look, Write}
@@ -321,6 +321,108 @@ shell_sets_nothing = refl
 shell_dumps_nothing : words_of (codes "shell" ∷ codes "-d" ∷ []) ≡ Err 1
 unfolding words_from
 shell_dumps_nothing = refl
+
+-- ---- `install` and `verify`
+
+-- the digits of a digest of 32 zero bytes
+abbrev zero_digits : List ℕ
+zero_digits = codes "0000000000000000000000000000000000000000000000000000000000000000"
+
+abbrev but_digest : List (List ℕ)
+but_digest = codes "install" ∷ codes "-i" ∷ codes "b.dts" ∷ codes "-c" ∷ codes "set.txt" ∷ codes "-t" ∷ codes "system0" ∷ codes "-p" ∷ codes "root0" ∷ codes "-f" ∷ codes "image" ∷ []
+
+abbrev install : Option (List ℕ) → List ℕ → Command
+install key digest = Install (record {
+  described = record { file = codes "b.dts"; name = None; key = key };
+  settings = codes "set.txt";
+  target = codes "system0";
+  slot = record { label = codes "root0"; image = codes "image" };
+  digest = digest;
+})
+
+install_whole : words_of (but_digest ++ codes "--sha256" ∷ zero_digits ∷ []) ≡ Ok (install None (replicate 32 0))
+unfolding words_from decode_pairs
+install_whole = refl
+
+install_key : words_of (but_digest ++ codes "--sha256" ∷ zero_digits ∷ codes "-k" ∷ codes "key" ∷ []) ≡ Ok (install (Some (codes "key")) (replicate 32 0))
+unfolding words_from decode_pairs
+install_key = refl
+
+install_without_digest : words_of but_digest ≡ Err 11
+unfolding words_from
+install_without_digest = refl
+
+short_digest : words_of (but_digest ++ codes "--sha256" ∷ codes "000000000000000000000000000000000000000000000000000000000000000" ∷ []) ≡ Err 12
+unfolding words_from
+short_digest = refl
+
+long_digest : words_of (but_digest ++ codes "--sha256" ∷ codes "00000000000000000000000000000000000000000000000000000000000000000" ∷ []) ≡ Err 12
+unfolding words_from
+long_digest = refl
+
+digest_joined : words_of (but_digest ++ codes "--sha256=0000000000000000000000000000000000000000000000000000000000000000" ∷ []) ≡ Err 11
+unfolding words_from
+digest_joined = refl
+
+second_target : words_of (codes "install" ∷ codes "-t" ∷ codes "a" ∷ codes "-t" ∷ codes "a" ∷ []) ≡ Err 3
+unfolding words_from
+second_target = refl
+
+verify_any_order : words_of (codes "verify" ∷ codes "-f" ∷ codes "-p" ∷ codes "-p" ∷ codes "-f" ∷ codes "--name=a" ∷ codes "--input" ∷ codes "x" ∷ [])
+    ≡ Ok (Verify (record { described = record { file = codes "x"; name = Some (codes "a"); key = None }; slot = record { label = codes "-f"; image = codes "-p" } }))
+unfolding words_from
+verify_any_order = refl
+
+verify_without_image : words_of (codes "verify" ∷ codes "-i" ∷ codes "x" ∷ codes "-p" ∷ codes "root0" ∷ []) ≡ Err 5
+unfolding words_from
+verify_without_image = refl
+
+key_of_verify : words_of (codes "verify" ∷ codes "-k" ∷ codes "key" ∷ []) ≡ Err 1
+unfolding words_from
+key_of_verify = refl
+
+settings_of_verify : words_of (codes "verify" ∷ codes "-c" ∷ codes "set.txt" ∷ []) ≡ Err 1
+unfolding words_from
+settings_of_verify = refl
+
+target_of_boot : words_of (codes "boot" ∷ codes "-t" ∷ codes "system0" ∷ []) ≡ Err 1
+unfolding words_from
+target_of_boot = refl
+
+-- ---- `history`
+
+abbrev history : List ℕ → Option (List ℕ) → Option (List ℕ) → Command
+history file name key =
+    History (record { described = record { file = file; name = name; key = key } })
+
+history_alone : words_of (codes "history" ∷ codes "-i" ∷ codes "b.dts" ∷ []) ≡ Ok (history (codes "b.dts") None None)
+unfolding words_from
+history_alone = refl
+
+history_any_order : words_of (codes "history" ∷ codes "-k" ∷ codes "key" ∷ codes "--name=boot" ∷ codes "--input" ∷ codes "-n" ∷ [])
+    ≡ Ok (history (codes "-n") (Some (codes "boot")) (Some (codes "key")))
+unfolding words_from
+history_any_order = refl
+
+history_without_a_file : words_of (codes "history" ∷ []) ≡ Err 1
+unfolding words_from
+history_without_a_file = refl
+
+history_sets_nothing : words_of (codes "history" ∷ codes "-s" ∷ codes "a=b" ∷ []) ≡ Err 1
+unfolding words_from
+history_sets_nothing = refl
+
+history_gets_nothing : words_of (codes "history" ∷ codes "-i" ∷ codes "a" ∷ codes "-g" ∷ codes "b" ∷ []) ≡ Err 3
+unfolding words_from
+history_gets_nothing = refl
+
+history_has_no_settings : words_of (codes "history" ∷ codes "-c" ∷ codes "a" ∷ []) ≡ Err 1
+unfolding words_from
+history_has_no_settings = refl
+
+history_dumps_nothing : words_of (codes "history" ∷ codes "-d" ∷ []) ≡ Err 1
+unfolding words_from
+history_dumps_nothing = refl
 
 -- ---- `menu`
 

@@ -12,11 +12,11 @@ use Rattle.bb_words.specs.declared.command.Command.TheVariants as commands
 use Rattle.bb_words.specs.declared.command.RawAction.TheVariants.{Look, Write}
 use Rattle.bb_words.specs.declared.given.Given.{Given}
 use Rattle.bb_words.specs.declared.option.Valued.{Valued}
-use Rattle.bb_words.specs.declared.option.Valued.TheVariants.{Input, Name, Get as GetOption, Set as SetOption, Settings, Script, Key, Cause}
+use Rattle.bb_words.specs.declared.option.Valued.TheVariants.{Input, Name, Get as GetOption, Set as SetOption, Settings, Script, Key, Target, Label, Image, Digest, Cause}
 use Rattle.bb_words.specs.declared.row.Row.{Row}
 use Rattle.bb_words.specs.declared.row.Row.TheVariants as rows
 use Rattle.bb_words.specs.FirstBad.{Begins}
-use Rattle.bb_words.specs.Options.{with_action}
+use Rattle.bb_words.specs.Options.{digest_spelt, with_action}
 use Rattle.bb_words.specs.Words.{WordStage, Start, Magic, Length, Mode, Area, DirOption, DirValue, DrillNumber, DrillCount, Options, Whole, raw_of, drill_of, next, command_at, words_from, words_of}
 
 -- some words after these make a command, from a stage on
@@ -89,6 +89,108 @@ shell_completed start file given None (Some script) = (codes "-c" ∷ [] ∷ [],
 shell_completed start file given (Some settings) None = (codes "-x" ∷ [] ∷ [], _, refl)
 shell_completed start file given (Some settings) (Some script) = ([], _, refl)
 
+-- of `install` all that must be there, one after another
+install_settings : (start : ℕ) (given : Given) (settings : Option (List ℕ)) →
+    ((start : ℕ) (value : List ℕ) →
+    Continues start (Options rows.Install None (record given { settings = Some value })) []) →
+    Continues start (Options rows.Install None (record given { settings = settings })) []
+unfolding words_from
+install_settings start given None behind =
+    let rest = behind (start + 1 + 1) [] in (codes "-c" ∷ [] ∷ rest.0, rest.1, rest.2)
+install_settings start given (Some value) behind = behind start value
+
+install_target : (start : ℕ) (given : Given) (target : Option (List ℕ)) →
+    ((start : ℕ) (value : List ℕ) →
+    Continues start (Options rows.Install None (record given { target = Some value })) []) →
+    Continues start (Options rows.Install None (record given { target = target })) []
+unfolding words_from
+install_target start given None behind =
+    let rest = behind (start + 1 + 1) [] in (codes "-t" ∷ [] ∷ rest.0, rest.1, rest.2)
+install_target start given (Some value) behind = behind start value
+
+install_label : (start : ℕ) (given : Given) (label : Option (List ℕ)) →
+    ((start : ℕ) (value : List ℕ) →
+    Continues start (Options rows.Install None (record given { label = Some value })) []) →
+    Continues start (Options rows.Install None (record given { label = label })) []
+unfolding words_from
+install_label start given None behind =
+    let rest = behind (start + 1 + 1) [] in (codes "-p" ∷ [] ∷ rest.0, rest.1, rest.2)
+install_label start given (Some value) behind = behind start value
+
+install_image : (start : ℕ) (given : Given) (image : Option (List ℕ)) →
+    ((start : ℕ) (value : List ℕ) →
+    Continues start (Options rows.Install None (record given { image = Some value })) []) →
+    Continues start (Options rows.Install None (record given { image = image })) []
+unfolding words_from
+install_image start given None behind =
+    let rest = behind (start + 1 + 1) [] in (codes "-f" ∷ [] ∷ rest.0, rest.1, rest.2)
+install_image start given (Some value) behind = behind start value
+
+-- a word that spells a digest
+zero_digest : List ℕ
+zero_digest = encode_lower (zeros 32)
+
+zero_spelt : digest_spelt zero_digest ≡ Some (zeros 32)
+unfolding zero_digest
+zero_spelt = ap result_ok (decode_sized-encode_lower (zeros 32) 32 (zeros_length 32) (zeros_bytes 32))
+
+abbrev with_parts :
+    Given → List ℕ → List ℕ → List ℕ → List ℕ → List ℕ → Option (List ℕ) → Given
+with_parts given file settings target label image digest = record given {
+  file = Some file;
+  settings = Some settings;
+  target = Some target;
+  label = Some label;
+  image = Some image;
+  digest = digest;
+}
+
+install_digest : (start : ℕ) (given : Given) (file settings target label image : List ℕ)
+    (digest : Option (List ℕ)) →
+    Continues start
+    (Options rows.Install None (with_parts given file settings target label image digest)) []
+unfolding words_from
+install_digest start given file settings target label image None =
+    let all = with_parts given file settings target label image None in (
+      codes "--sha256" ∷ zero_digest ∷ [],
+      _,
+      ap
+          (λ o.
+          option_map_or (λ behind. words_from (start + 1 + 1) behind [])
+          (option_map (Options rows.Install None)
+          (option_map (λ digest. record all { digest = Some digest }) o)) (Err (start + 1)))
+          zero_spelt,
+    )
+install_digest start given file settings target label image (Some digest) = ([], _, refl)
+
+install_completed : (start : ℕ) (file : List ℕ) (given : Given) →
+    Continues start (Options rows.Install None (record given { file = Some file })) []
+install_completed start file given =
+    let filed = record given { file = Some file } in
+    install_settings start filed given.settings
+    (λ start settings.
+    install_target start (record filed { settings = Some settings }) given.target
+    (λ start target.
+    install_label start (record filed { settings = Some settings; target = Some target })
+    given.label
+    (λ start label.
+    install_image start
+    (record filed { settings = Some settings; target = Some target; label = Some label })
+    given.image
+    (λ start image. install_digest start given file settings target label image given.digest))))
+
+-- and of `verify` the slot and its image
+abbrev with_slot : Given → List ℕ → Option (List ℕ) → Option (List ℕ) → Given
+with_slot given file label image = record given { file = Some file; label = label; image = image }
+
+verify_completed : (start : ℕ) (file : List ℕ) (given : Given) (label image : Option (List ℕ)) →
+    Continues start (Options rows.Verify None (with_slot given file label image)) []
+unfolding words_from
+verify_completed start file given None None = (codes "-p" ∷ [] ∷ codes "-f" ∷ [] ∷ [], _, refl)
+verify_completed start file given None (Some image) = (codes "-p" ∷ [] ∷ [], _, refl)
+verify_completed start file given (Some label) None = (codes "-f" ∷ [] ∷ [], _, refl)
+verify_completed start file given (Some label) (Some image) = ([], _, refl)
+
 row_completed : (row : Row) (given : Given) (start : ℕ) (file : List ℕ) →
     Continues start (Options row None (record given { file = Some file })) []
 unfolding words_from
@@ -97,6 +199,9 @@ row_completed rows.MarkGood given start file = mark_completed start file given g
 row_completed rows.Boot given start file = boot_completed start file given given.settings
 row_completed rows.Shell given start file =
     shell_completed start file given given.settings given.script
+row_completed rows.Install given start file = install_completed start file given
+row_completed rows.Verify given start file = verify_completed start file given given.label given.image
+row_completed rows.History given start file = ([], _, refl)
 
 options_completed : (start : ℕ) (row : Row) (given : Given) →
     Continues start (Options row None given) []
@@ -121,6 +226,27 @@ value_completed start row Script given =
 value_completed start row Key given =
     let rest = options_completed (start + 1) row (record given { key = Some [] }) in
     ([] ∷ rest.0, rest.1, rest.2)
+value_completed start row Target given =
+    let rest = options_completed (start + 1) row (record given { target = Some [] }) in
+    ([] ∷ rest.0, rest.1, rest.2)
+value_completed start row Label given =
+    let rest = options_completed (start + 1) row (record given { label = Some [] }) in
+    ([] ∷ rest.0, rest.1, rest.2)
+value_completed start row Image given =
+    let rest = options_completed (start + 1) row (record given { image = Some [] }) in
+    ([] ∷ rest.0, rest.1, rest.2)
+value_completed start row Digest given =
+    let rest = options_completed (start + 1) row (record given { digest = Some (zeros 32) }) in (
+      zero_digest ∷ rest.0,
+      rest.1,
+      ap
+          (λ o.
+          option_map_or (λ behind. words_from (start + 1) behind rest.0)
+          (option_map (Options row None) (option_map (λ digest. record given { digest = Some digest }) o))
+          (Err start))
+          zero_spelt
+          ∙ rest.2,
+    )
 value_completed start row Cause given =
     let rest = options_completed (start + 1) row (record given { cause = Some Other }) in
     (codes "other" ∷ rest.0, rest.1, rest.2)

@@ -14,10 +14,10 @@ use Rattle.bb_words.specs.declared.command.RawAction.TheVariants.{Look, Write}
 use Rattle.bb_words.specs.declared.command.RawCommand.{RawCommand}
 use Rattle.bb_words.specs.declared.given.Given.{Given}
 use Rattle.bb_words.specs.declared.option.Valued.{Valued}
-use Rattle.bb_words.specs.declared.option.Valued.TheVariants.{Input, Name, Get as GetOption, Set as SetOption, Settings, Script, Key, Cause}
+use Rattle.bb_words.specs.declared.option.Valued.TheVariants.{Input, Name, Get as GetOption, Set as SetOption, Settings, Script, Key, Target, Label, Image, Digest, Cause}
 use Rattle.bb_words.specs.declared.row.Row.{Row}
 use Rattle.bb_words.specs.declared.row.Row.TheVariants as rows
-use Rattle.bb_words.specs.Options.{cause_word_of, has_sign, set_in}
+use Rattle.bb_words.specs.Options.{cause_word_of, digest_spelt, has_sign, set_in}
 use Rattle.bb_words.specs.Table.{command_name_of, has_option, has_dumps, command_of}
 use Rattle.bb_words.specs.Words.{number_up_to, area_spelt, sessions_spelt}
 
@@ -72,6 +72,10 @@ own_form SetOption = codes "-s"
 own_form Settings = codes "-c"
 own_form Script = codes "-x"
 own_form Key = codes "-k"
+own_form Target = codes "-t"
+own_form Label = codes "-p"
+own_form Image = codes "-f"
+own_form Digest = codes "--sha256"
 own_form Cause = codes "--cause"
 
 -- whether there is a long form besides, and it
@@ -79,6 +83,10 @@ abbrev pub has_long : Valued → Bool
 has_long Settings = false
 has_long Script = false
 has_long Key = false
+has_long Target = false
+has_long Label = false
+has_long Image = false
+has_long Digest = false
 has_long Cause = false
 has_long _ = true
 
@@ -90,6 +98,10 @@ long_form SetOption = codes "--set"
 long_form Settings = []
 long_form Script = []
 long_form Key = []
+long_form Target = []
+long_form Label = []
+long_form Image = []
+long_form Digest = []
 long_form Cause = []
 
 -- the words of an item
@@ -101,10 +113,11 @@ item_words ShortDump = codes "-d" ∷ []
 item_words LongDump = codes "--dump" ∷ []
 item_words ShellDump = codes "--dump-shell" ∷ []
 
--- whether a text is a value of the option: that of `-s` is VAR=VALUE, that of `--cause` one of
--- three words
+-- whether a text is a value of the option: that of `-s` is VAR=VALUE, that of `--sha256` has 64
+-- hexadecimal digits, and that of `--cause` is one of three words
 abbrev pub is_value : Valued → List ℕ → Bool
 is_value SetOption value = has_sign value
+is_value Digest value = is_some (digest_spelt value)
 is_value Cause value = is_some (cause_word_of value)
 is_value _ value = true
 
@@ -120,8 +133,8 @@ has_item row (Takes form valued value) =
     has_option row valued && (has_form form valued && is_value valued value)
 has_item row _ = has_dumps row
 
--- the file, the state's name, the files of the settings, of the script and of the key, the cause
--- and the action that an item gives
+-- the file, the state's name, the files of the settings, of the script and of the key, the target,
+-- the slot's label, the file of the image, its digest, the cause and the action that an item gives
 abbrev pub file_in : Item → Option (List ℕ)
 file_in (Takes form Input value) = Some value
 file_in _ = None
@@ -142,6 +155,22 @@ abbrev pub key_file_in : Item → Option (List ℕ)
 key_file_in (Takes form Key value) = Some value
 key_file_in _ = None
 
+abbrev pub target_in : Item → Option (List ℕ)
+target_in (Takes form Target value) = Some value
+target_in _ = None
+
+abbrev pub label_in : Item → Option (List ℕ)
+label_in (Takes form Label value) = Some value
+label_in _ = None
+
+abbrev pub image_file_in : Item → Option (List ℕ)
+image_file_in (Takes form Image value) = Some value
+image_file_in _ = None
+
+abbrev pub digest_in : Item → Option (List ℕ)
+digest_in (Takes form Digest value) = digest_spelt value
+digest_in _ = None
+
 abbrev pub cause_in : Item → Option CauseWord
 cause_in (Takes form Cause value) = cause_word_of value
 cause_in _ = None
@@ -152,6 +181,10 @@ action_in (Takes form Name value) = None
 action_in (Takes form Settings value) = None
 action_in (Takes form Script value) = None
 action_in (Takes form Key value) = None
+action_in (Takes form Target value) = None
+action_in (Takes form Label value) = None
+action_in (Takes form Image value) = None
+action_in (Takes form Digest value) = None
 action_in (Takes form Cause value) = None
 action_in (Takes form GetOption value) = Some (Get value)
 action_in (Takes form SetOption value) = set_in value
@@ -160,8 +193,9 @@ action_in LongDump = Some Dump
 action_in ShellDump = Some DumpShell
 
 -- the command's name, and items that it has in any order: at most one file, one name, one file of
--- settings, one of a script, one of a key and one cause, and the actions in their order; they make
--- the command where those are there that must be
+-- settings, one of a script, one of a key, one target, one label, one file of an image, one digest
+-- and one cause, and the actions in their order; they make the command where those are there that
+-- must be
 pub record IsSpelt (row : Row) (words : List (List ℕ)) (command : Command) : Type 0 where
   pub items : List Item
   pub given : Given
@@ -172,6 +206,10 @@ pub record IsSpelt (row : Row) (words : List (List ℕ)) (command : Command) : T
   pub settings_are : filter_map settings_in items ≡ option_to_list given.settings
   pub script_is : filter_map script_file_in items ≡ option_to_list given.script
   pub key_is : filter_map key_file_in items ≡ option_to_list given.key
+  pub target_is : filter_map target_in items ≡ option_to_list given.target
+  pub label_is : filter_map label_in items ≡ option_to_list given.label
+  pub image_is : filter_map image_file_in items ≡ option_to_list given.image
+  pub digest_is : filter_map digest_in items ≡ option_to_list given.digest
   pub cause_is : filter_map cause_in items ≡ option_to_list given.cause
   pub actions_are : filter_map action_in items ≡ given.actions
   pub made : command_of row given ≡ Some command
@@ -186,6 +224,9 @@ Spells words (commands.State state) = IsSpelt rows.State words (commands.State s
 Spells words (commands.MarkGood mark) = IsSpelt rows.MarkGood words (commands.MarkGood mark)
 Spells words (commands.Boot boot) = IsSpelt rows.Boot words (commands.Boot boot)
 Spells words (commands.Shell shell) = IsSpelt rows.Shell words (commands.Shell shell)
+Spells words (commands.Install install) = IsSpelt rows.Install words (commands.Install install)
+Spells words (commands.Verify verify) = IsSpelt rows.Verify words (commands.Verify verify)
+Spells words (commands.History history) = IsSpelt rows.History words (commands.History history)
 Spells words (commands.Menu menu) = words ≡ codes "menu" ∷ codes "--dir" ∷ menu.dir ∷ []
 Spells words (commands.Drill numbers) =
     (rest : List (List ℕ)) × (words ≡ codes "drill" ∷ rest) × IsDrill rest numbers

@@ -2,14 +2,16 @@
 use Rattle.std.specs.Prelude.{ℕ, ◌==◌, Bool, false, ◌||◌, List, [], ◌∷◌, ◌++◌, codes, Option, Some, None, is_some, option_and_then, if◌then◌else◌}
 use Rattle.std.specs.List.{list_any, before_first, after_first}
 use Rattle.std.specs.Option.{option_map}
+use Rattle.std.specs.Result.{result_ok}
 use Rattle.std.specs.Str.{bytes_eq}
+use Rattle.hex.specs.Hex.{decode_sized}
 use Rattle.bb_words.specs.declared.command.Action.{Action}
 use Rattle.bb_words.specs.declared.command.Action.TheVariants.{Set, Get, Dump, DumpShell}
 use Rattle.bb_words.specs.declared.command.CauseWord.{CauseWord}
 use Rattle.bb_words.specs.declared.command.CauseWord.TheVariants.{PowerOn, Reset, Other}
 use Rattle.bb_words.specs.declared.given.Given.{Given}
 use Rattle.bb_words.specs.declared.option.Valued.{Valued}
-use Rattle.bb_words.specs.declared.option.Valued.TheVariants.{Input, Name, Get as GetOption, Set as SetOption, Settings, Script, Key, Cause}
+use Rattle.bb_words.specs.declared.option.Valued.TheVariants.{Input, Name, Get as GetOption, Set as SetOption, Settings, Script, Key, Target, Label, Image, Digest, Cause}
 
 -- ---- what a word is
 
@@ -32,6 +34,10 @@ valued_of word =
     else if bytes_eq word (codes "-c") then Some Settings
     else if bytes_eq word (codes "-k") then Some Key
     else if bytes_eq word (codes "-x") then Some Script
+    else if bytes_eq word (codes "-t") then Some Target
+    else if bytes_eq word (codes "-p") then Some Label
+    else if bytes_eq word (codes "-f") then Some Image
+    else if bytes_eq word (codes "--sha256") then Some Digest
     else if bytes_eq word (codes "--cause") then Some Cause
     else long_of word
 
@@ -67,6 +73,10 @@ cause_word_of word =
     else if bytes_eq word (codes "other") then Some Other
     else None
 
+-- the digest of 32 bytes that 64 hexadecimal digits spell, of either case
+abbrev pub digest_spelt : List ℕ → Option (List ℕ)
+digest_spelt digits = result_ok (decode_sized digits 32)
+
 -- ---- what options give
 
 -- nothing
@@ -77,6 +87,10 @@ none_given = record {
   settings = None;
   script = None;
   key = None;
+  target = None;
+  label = None;
+  image = None;
+  digest = None;
   cause = None;
   actions = [];
 }
@@ -96,6 +110,11 @@ with_option Name value given = Some (record given { name = Some value })
 with_option Settings value given = Some (record given { settings = Some value })
 with_option Script value given = Some (record given { script = Some value })
 with_option Key value given = Some (record given { key = Some value })
+with_option Target value given = Some (record given { target = Some value })
+with_option Label value given = Some (record given { label = Some value })
+with_option Image value given = Some (record given { image = Some value })
+with_option Digest value given =
+    option_map (λ digest. record given { digest = Some digest }) (digest_spelt value)
 with_option Cause value given =
     option_map (λ cause. record given { cause = Some cause }) (cause_word_of value)
 with_option GetOption value given = Some (with_action (Get value) given)
@@ -108,6 +127,10 @@ given_once Name given = is_some given.name
 given_once Settings given = is_some given.settings
 given_once Script given = is_some given.script
 given_once Key given = is_some given.key
+given_once Target given = is_some given.target
+given_once Label given = is_some given.label
+given_once Image given = is_some given.image
+given_once Digest given = is_some given.digest
 given_once Cause given = is_some given.cause
 given_once GetOption given = false
 given_once SetOption given = false

@@ -9,9 +9,12 @@ use Rattle.bb_words.specs.declared.command.CauseWord.TheVariants.{Other}
 use Rattle.bb_words.specs.declared.command.Command.{Command}
 use Rattle.bb_words.specs.declared.command.Command.TheVariants as commands
 use Rattle.bb_words.specs.declared.command.Described.{Described}
+use Rattle.bb_words.specs.declared.command.InstallCommand.{InstallCommand}
+use Rattle.bb_words.specs.declared.command.SlotWords.{SlotWords}
+use Rattle.bb_words.specs.declared.command.VerifyCommand.{VerifyCommand}
 use Rattle.bb_words.specs.declared.given.Given.{Given}
 use Rattle.bb_words.specs.declared.option.Valued.{Valued}
-use Rattle.bb_words.specs.declared.option.Valued.TheVariants.{Input, Name, Get as GetOption, Set as SetOption, Settings, Script, Key, Cause}
+use Rattle.bb_words.specs.declared.option.Valued.TheVariants.{Input, Name, Get as GetOption, Set as SetOption, Settings, Script, Key, Target, Label, Image, Digest, Cause}
 use Rattle.bb_words.specs.declared.row.Row.{Row}
 use Rattle.bb_words.specs.declared.row.Row.TheVariants as rows
 use Rattle.bb_words.specs.Options.{given_once}
@@ -22,6 +25,9 @@ command_name_of rows.State = codes "state"
 command_name_of rows.MarkGood = codes "mark-good"
 command_name_of rows.Boot = codes "boot"
 command_name_of rows.Shell = codes "shell"
+command_name_of rows.Install = codes "install"
+command_name_of rows.Verify = codes "verify"
+command_name_of rows.History = codes "history"
 
 -- the command that is called so
 abbrev pub row_of : List ℕ → Option Row
@@ -30,25 +36,40 @@ row_of word =
     else if bytes_eq word (command_name_of rows.MarkGood) then Some rows.MarkGood
     else if bytes_eq word (command_name_of rows.Boot) then Some rows.Boot
     else if bytes_eq word (command_name_of rows.Shell) then Some rows.Shell
+    else if bytes_eq word (command_name_of rows.Install) then Some rows.Install
+    else if bytes_eq word (command_name_of rows.Verify) then Some rows.Verify
+    else if bytes_eq word (command_name_of rows.History) then Some rows.History
     else None
 
--- whether every row has an option: it says which state, or by which key
+-- whether every row has an option: it says which state
 abbrev pub is_common : Valued → Bool
 is_common Input = true
 is_common Name = true
-is_common Key = true
 is_common _ = false
 
 -- which options a row has besides
 abbrev pub has_besides : Row → Valued → Bool
+has_besides rows.State Key = true
 has_besides rows.State GetOption = true
 has_besides rows.State SetOption = true
+has_besides rows.MarkGood Key = true
 has_besides rows.MarkGood Settings = true
+has_besides rows.Boot Key = true
 has_besides rows.Boot Settings = true
 has_besides rows.Boot Cause = true
+has_besides rows.Shell Key = true
 has_besides rows.Shell Settings = true
 has_besides rows.Shell Script = true
 has_besides rows.Shell Cause = true
+has_besides rows.Install Key = true
+has_besides rows.Install Settings = true
+has_besides rows.Install Target = true
+has_besides rows.Install Label = true
+has_besides rows.Install Image = true
+has_besides rows.Install Digest = true
+has_besides rows.Verify Label = true
+has_besides rows.Verify Image = true
+has_besides rows.History Key = true
 has_besides _ _ = false
 
 -- whether a row has an option with a value
@@ -79,8 +100,49 @@ boot_in given =
     given.settings)
     (described_in given)
 
--- the command that its options make, where those are given that must be: of `state` the file, of
--- `mark-good`, `boot` and `shell` that of the settings too, and of `shell` that of the script
+-- a slot and its image, where both are named
+abbrev pub slot_given : Option (List ℕ) → Option (List ℕ) → Option SlotWords
+slot_given (Some label) (Some image) = Some (record { label = label; image = image })
+slot_given _ _ = None
+
+-- what `install` is given besides the state and the settings, where nothing is missing
+abbrev pub install_by :
+    Described → List ℕ → Option (List ℕ) → Option SlotWords → Option (List ℕ)
+    → Option InstallCommand
+install_by described settings (Some target) (Some slot) (Some digest) =
+    Some (record {
+      described = described;
+      settings = settings;
+      target = target;
+      slot = slot;
+      digest = digest;
+    })
+install_by described settings _ _ _ = None
+
+-- what `install` is given: the state, the settings, the target, the slot, its image and the digest
+abbrev pub install_in : Given → Option InstallCommand
+install_in given =
+    option_and_then
+    (λ described.
+    option_and_then
+    (λ settings.
+    install_by described settings given.target (slot_given given.label given.image) given.digest)
+    given.settings)
+    (described_in given)
+
+-- what `verify` is given: the state, the slot and its image
+abbrev pub verify_in : Given → Option VerifyCommand
+verify_in given =
+    option_and_then
+    (λ described.
+    option_map (λ slot. record { described = described; slot = slot })
+    (slot_given given.label given.image))
+    (described_in given)
+
+-- the command that its options make, where those are given that must be: of `state` and `history`
+-- the file, of `mark-good`, `boot`, `shell` and `install` that of the settings too, of `shell` that
+-- of the script, of `install` and `verify` the slot and its image, and of `install` the target and
+-- the digest
 abbrev pub command_of : Row → Given → Option Command
 command_of rows.State given =
     option_map
@@ -99,6 +161,12 @@ command_of rows.Shell given =
     (λ boot.
     option_map (λ script. commands.Shell (record { boot = boot; script = script })) given.script)
     (boot_in given)
+command_of rows.Install given = option_map (λ install. commands.Install install) (install_in given)
+command_of rows.Verify given = option_map (λ verify. commands.Verify verify) (verify_in given)
+command_of rows.History given =
+    option_map
+    (λ described. commands.History (record { described = described }))
+    (described_in given)
 
 -- whether an option may come: the command has it, and it wasn't given before if it comes once
 abbrev pub may_come : Row → Valued → Given → Bool

@@ -1,5 +1,4 @@
-use crate::ActionList;
-use bb_base::{Bytes, Text};
+use bb_base::{Bytes, List, Text};
 
 /// A command of the program.
 #[derive(Debug, Drop)]
@@ -9,6 +8,9 @@ pub enum Command {
     MarkGood(MarkGoodCommand),
     Boot(BootCommand),
     Shell(ShellCommand),
+    Install(InstallCommand),
+    Verify(VerifyCommand),
+    History(HistoryCommand),
     Menu(MenuCommand),
     Drill(DrillNumbers),
 }
@@ -78,6 +80,41 @@ pub struct ShellCommand {
     pub script: Text,
 }
 
+/// A slot, and the image that belongs there.
+#[derive(Debug, Drop)]
+pub struct SlotWords {
+    /// `-p`: the label of the slot.
+    pub label: Text,
+    /// `-f`: the file of the image.
+    pub image: Text,
+}
+
+/// `install`: an image is written to a slot while its target is disabled.
+#[derive(Debug, Drop)]
+pub struct InstallCommand {
+    pub described: Described,
+    /// `-c`: the file with the bootchooser's settings.
+    pub settings: Text,
+    /// `-t`: the name of the target.
+    pub target: Text,
+    pub slot: SlotWords,
+    /// `--sha256`: SHA-256 of the image, of 32 bytes.
+    pub digest: Bytes,
+}
+
+/// `verify`: whether a slot holds an image. It has no `-k`.
+#[derive(Debug, Drop)]
+pub struct VerifyCommand {
+    pub described: Described,
+    pub slot: SlotWords,
+}
+
+/// `history`: what the copies' regions still hold, oldest first.
+#[derive(Debug, Drop)]
+pub struct HistoryCommand {
+    pub described: Described,
+}
+
 /// `menu`: the order of the boot entries in a folder.
 #[derive(Debug, Drop)]
 pub struct MenuCommand {
@@ -118,3 +155,6 @@ pub enum Action {
     /// `--dump-shell`: the same for a shell.
     DumpShell,
 }
+
+/// Actions, in the order of the words.
+pub type ActionList = List<Action>;

@@ -1,21 +1,22 @@
-ghost use Rattle.std.specs.Prelude.{◌≡◌, None, Some, IfOk, IfErr, OnOk, option_and_then};
-ghost use Rattle.std.specs.Prelude.{unwrap_or};
+ghost use Rattle.std.specs.Prelude.{◌≡◌, None, Some, IfOk, IfErr, IfSome, OnOk, option_and_then};
 ghost use Rattle.std.specs.Option.{ok_or, option_map};
 ghost use Rattle.bb_words.specs.Answer.{IsSized, Refuses};
 ghost use Rattle.bb_words.specs.Options.{given_once, none_given, set_in, joined_value_in};
 ghost use Rattle.bb_words.specs.Options.{valued_of};
 ghost use Rattle.bb_words.specs.Options.{with_option};
-ghost use Rattle.bb_words.specs.Table.{may_come};
+ghost use Rattle.bb_words.specs.Table.{command_of, may_come};
 ghost use Rattle.bb_words.specs.Words.{Options, after_joined, after_option, after_value};
 ghost use Rattle.bb_words.specs.Words.{before_value, command_at, next};
 
+use crate::digest::digest_spelt;
+use crate::made::{boot_by, described_by, install_by, slot_given};
 use crate::option::{Valued, cause_of, cut_at_sign, dump_of, value_in, valued_of};
 use crate::row::Row;
 use crate::{
-    Action, ActionList, BootCommand, CauseWord, Command, Described, MarkGoodCommand, ShellCommand,
-    StateCommand, WordsError,
+    Action, ActionList, CauseWord, Command, HistoryCommand, MarkGoodCommand, ShellCommand,
+    StateCommand, VerifyCommand, WordsError,
 };
-use bb_base::{NoMemory, Text};
+use bb_base::{Bytes, NoMemory, Text};
 use std::alloc::Global;
 
 /// What the options of a command have given so far.
@@ -26,6 +27,10 @@ pub(crate) struct Given {
     pub settings: Option<Text>,
     pub script: Option<Text>,
     pub key: Option<Text>,
+    pub target: Option<Text>,
+    pub label: Option<Text>,
+    pub image: Option<Text>,
+    pub digest: Option<Bytes>,
     pub cause: Option<CauseWord>,
     pub actions: ActionList,
 }
@@ -41,6 +46,10 @@ impl Given {
             settings: None,
             script: None,
             key: None,
+            target: None,
+            label: None,
+            image: None,
+            digest: None,
             cause: None,
             actions: ActionList::none(alloc),
         }
@@ -127,6 +136,10 @@ impl Given {
             Valued::Settings => self.settings.is_some(),
             Valued::Script => self.script.is_some(),
             Valued::Key => self.key.is_some(),
+            Valued::Target => self.target.is_some(),
+            Valued::Label => self.label.is_some(),
+            Valued::Image => self.image.is_some(),
+            Valued::Digest => self.digest.is_some(),
             Valued::Cause => self.cause.is_some(),
             Valued::Get | Valued::Set => false,
         }
@@ -150,6 +163,13 @@ impl Given {
             Valued::Settings => self.settings = Some(Text::of(alloc, value)?),
             Valued::Script => self.script = Some(Text::of(alloc, value)?),
             Valued::Key => self.key = Some(Text::of(alloc, value)?),
+            Valued::Target => self.target = Some(Text::of(alloc, value)?),
+            Valued::Label => self.label = Some(Text::of(alloc, value)?),
+            Valued::Image => self.image = Some(Text::of(alloc, value)?),
+            Valued::Digest => {
+                let digest = digest_spelt(alloc, value)?;
+                self.digest = Some(digest.ok_or(WordsError::BadWord(place))?);
+            }
             Valued::Cause => self.cause = Some(cause_of(value).ok_or(WordsError::BadWord(place))?),
             Valued::Get => self.actions.push(Action::Get(Text::of(alloc, value)?))?,
             Valued::Set => {
@@ -174,47 +194,49 @@ impl Given {
         ensures refused { IfErr result (λ cause.
             (cause ≡ WordsError.BadWord place) × (command_at (Options row due self) ≡ None)) }
     {
-        let (Some(file), None) = (self.file, due) else {
+        if due.is_some() {
             return Err(WordsError::BadWord(place));
-        };
-        let described = Described {
-            file,
-            name: self.name,
-            key: self.key,
-        };
+        }
+        match self.made(row) {
+            Some(command) => Ok(command),
+            None => Err(WordsError::BadWord(place)),
+        }
+    }
+
+    // The command, where nothing is missing.
+    fn made(self, row: Row) -> Option<Command>
+        ensures made { result ≡ command_of row self }
+        ensures sized { IfSome result IsSized }
+    {
+        let described = described_by(self.file?, self.name, self.key);
         match (row, self.settings, self.script) {
-            (Row::State, _, _) => Ok(Command::State(StateCommand {
+            (Row::State, _, _) => Some(Command::State(StateCommand {
                 described,
                 actions: self.actions,
             })),
-            (Row::MarkGood, Some(settings), _) => Ok(Command::MarkGood(MarkGoodCommand {
+            (Row::MarkGood, Some(settings), _) => Some(Command::MarkGood(MarkGoodCommand {
                 described,
                 settings,
             })),
             (Row::Boot, Some(settings), _) => {
-                Ok(Command::Boot(boot_by(described, settings, self.cause)))
+                Some(Command::Boot(boot_by(described, settings, self.cause)))
             }
-            (Row::Shell, Some(settings), Some(script)) => Ok(Command::Shell(ShellCommand {
+            (Row::Shell, Some(settings), Some(script)) => Some(Command::Shell(ShellCommand {
                 boot: boot_by(described, settings, self.cause),
                 script,
             })),
-            _ => Err(WordsError::BadWord(place)),
+            (Row::Install, Some(settings), _) => {
+                let slot = slot_given(self.label, self.image);
+                let install = install_by(described, settings, self.target, slot, self.digest)?;
+                Some(Command::Install(install))
+            }
+            (Row::Verify, _, _) => {
+                let slot = slot_given(self.label, self.image)?;
+                Some(Command::Verify(VerifyCommand { described, slot }))
+            }
+            (Row::History, _, _) => Some(Command::History(HistoryCommand { described })),
+            _ => None,
         }
-    }
-}
-
-// What `boot` is given. The cause is `other` where none is said.
-fn boot_by(described: Described, settings: Text, cause: Option<CauseWord>) -> BootCommand
-    ensures { result ≡ record {
-      described = described;
-      settings = settings;
-      cause = unwrap_or cause CauseWord.Other;
-    } }
-{
-    BootCommand {
-        described,
-        settings,
-        cause: cause.unwrap_or(CauseWord::Other),
     }
 }
 

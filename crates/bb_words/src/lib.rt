@@ -2,12 +2,13 @@
 //! fits none. The program's top crate stands on it; it knows neither devices nor files.
 #![tactic(auto)]
 
-mod action_list;
 mod command;
+mod digest;
 mod drill;
 mod error;
 mod given;
 mod law;
+mod made;
 mod menu;
 mod option;
 mod options;
@@ -16,10 +17,10 @@ mod read;
 mod row;
 mod word;
 
-pub use action_list::ActionList;
 pub use command::{
-    Action, BootCommand, CauseWord, Command, Described, DrillNumbers, MarkGoodCommand, MenuCommand,
-    RawAction, RawCommand, ShellCommand, StateCommand,
+    Action, ActionList, BootCommand, CauseWord, Command, Described, DrillNumbers, HistoryCommand,
+    InstallCommand, MarkGoodCommand, MenuCommand, RawAction, RawCommand, ShellCommand, SlotWords,
+    StateCommand, VerifyCommand,
 };
 pub use error::WordsError;
 pub use law::{law_accepted_words, law_first_bad_word};

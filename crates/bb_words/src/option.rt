@@ -23,16 +23,24 @@ pub(crate) enum Valued {
     Key,
     /// `-x`, which has no long form
     Script,
+    /// `-t`, which has no long form
+    Target,
+    /// `-p`, which has no long form
+    Label,
+    /// `-f`, which has no long form
+    Image,
+    /// `--sha256`, whose value is the next word alone
+    Digest,
     /// `--cause`, whose value is the next word alone
     Cause,
 }
 
 impl Valued {
-    /// Whether every row has it: it says which state, or by which key.
+    /// Whether every row has it: it says which state.
     pub(crate) fn is_common(self) -> bool
         ensures { result ≡ is_common self }
     {
-        matches!(self, Valued::Input | Valued::Name | Valued::Key)
+        matches!(self, Valued::Input | Valued::Name)
     }
 }
 
@@ -59,6 +67,10 @@ pub(crate) fn valued_of(word: &str) -> Option<Valued>
         "-c" => Some(Valued::Settings),
         "-k" => Some(Valued::Key),
         "-x" => Some(Valued::Script),
+        "-t" => Some(Valued::Target),
+        "-p" => Some(Valued::Label),
+        "-f" => Some(Valued::Image),
+        "--sha256" => Some(Valued::Digest),
         "--cause" => Some(Valued::Cause),
         _ => long_of(word),
     }

@@ -11,6 +11,9 @@ pub(crate) enum Row {
     MarkGood,
     Boot,
     Shell,
+    Install,
+    Verify,
+    History,
 }
 
 impl Row {
@@ -23,6 +26,9 @@ impl Row {
             "mark-good" => Some(Row::MarkGood),
             "boot" => Some(Row::Boot),
             "shell" => Some(Row::Shell),
+            "install" => Some(Row::Install),
+            "verify" => Some(Row::Verify),
+            "history" => Some(Row::History),
             _ => None,
         }
     }
@@ -40,10 +46,15 @@ impl Row {
     {
         match valued {
             Valued::Get | Valued::Set => matches!(self, Row::State),
-            Valued::Settings => matches!(self, Row::MarkGood | Row::Boot | Row::Shell),
+            Valued::Settings => {
+                matches!(self, Row::MarkGood | Row::Boot | Row::Shell | Row::Install)
+            }
             Valued::Script => matches!(self, Row::Shell),
             Valued::Cause => matches!(self, Row::Boot | Row::Shell),
-            Valued::Input | Valued::Name | Valued::Key => false,
+            Valued::Key => !matches!(self, Row::Verify),
+            Valued::Target | Valued::Digest => matches!(self, Row::Install),
+            Valued::Label | Valued::Image => matches!(self, Row::Install | Row::Verify),
+            Valued::Input | Valued::Name => false,
         }
     }
 

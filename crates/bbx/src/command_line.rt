@@ -22,6 +22,8 @@ pub struct Options {
     pub read_only: bool,
     /// `--explain` is there.
     pub explain: bool,
+    /// `--progress` is there.
+    pub progress: bool,
 }
 
 /// What stands after the options.
@@ -121,6 +123,7 @@ impl Options {
             plan: None,
             read_only: false,
             explain: false,
+            progress: false,
         }
     }
 
@@ -132,6 +135,7 @@ impl Options {
         Ok(match word {
             "--read-only" => once(&mut self.read_only),
             "--explain" => once(&mut self.explain),
+            "--progress" => once(&mut self.progress),
             _ => Taken::Device,
         })
     }
@@ -192,7 +196,7 @@ fn words_from(alloc: Global, words: &[String], start: usize) -> Result<TextList,
 // Whether `--explain` stands among the options in front, where a later word isn't UTF-8. A word of
 // more bytes than a path may have ends them.
 fn asks_to_explain<R: Env>(rt: &R) -> bool {
-    for place in 1..4 {
+    for place in 1..5 {
         let mut buffer = [0u8; 4096];
         let Ok(len) = rt.arg(place, &mut buffer) else {
             return false;
@@ -201,9 +205,17 @@ fn asks_to_explain<R: Env>(rt: &R) -> bool {
         if word == b"--explain".as_slice() {
             return true;
         }
-        if word != b"--read-only".as_slice() && !word.starts_with(b"--plan=") {
+        if !stands_in_front(word) {
             return false;
         }
     }
     false
+}
+
+// Whether a word is another option in front.
+fn stands_in_front(word: &[u8]) -> bool {
+    if word == b"--read-only".as_slice() {
+        return true;
+    }
+    word == b"--progress".as_slice() || word.starts_with(b"--plan=")
 }

@@ -58,18 +58,28 @@ fn sentence_of(status: Status) -> Option<(&'static str, &'static str)> {
         Status::FileTooLong => ("", " is longer than 1048576 bytes, or a file in it is"),
         Status::ReadFault => ("the device can't be read", ""),
         Status::WriteFault => ("copy ", " can't be written"),
-        Status::NoTarget => ("no target has a priority and attempts left", ""),
-        Status::StartFailed => ("no target could be started, and the last one was ", ""),
+        Status::NoTarget | Status::StartFailed | Status::NoGood => return of_target(status),
         Status::BadSettings => ("the settings can't be used: ", ""),
         Status::BadScript | Status::ScriptFailed | Status::StepLimit => return of_script(status),
+        Status::BadTarget | Status::BadSlot | Status::ImageTooLong => return of_install(status),
+        Status::BadDigest | Status::LastTarget | Status::SlotFault => return of_install(status),
         Status::SinkFault => ("the output can't be written", ""),
         Status::BadKey => (
             "the state's records stand under a key, and there is none: ",
             "",
         ),
-        Status::NoGood => ("no target was chosen last, since last_chosen is ", ""),
         Status::NoMemory => ("memory was refused", ""),
     })
+}
+
+// The same of those of a boot and of the target that was chosen last.
+fn of_target(status: Status) -> Option<(&'static str, &'static str)> {
+    match status {
+        Status::NoTarget => Some(("no target has a priority and attempts left", "")),
+        Status::StartFailed => Some(("no target could be started, and the last one was ", "")),
+        Status::NoGood => Some(("no target was chosen last, since last_chosen is ", "")),
+        _ => None,
+    }
 }
 
 // The same of the statuses that only a script has.
@@ -78,6 +88,19 @@ fn of_script(status: Status) -> Option<(&'static str, &'static str)> {
         Status::BadScript => Some(("the script can't be read: ", "")),
         Status::ScriptFailed => Some(("the script ended with status ", "")),
         Status::StepLimit => Some(("the script has more than 10000 commands and rounds", "")),
+        _ => None,
+    }
+}
+
+// The same of the statuses that only an install has, or a comparison.
+fn of_install(status: Status) -> Option<(&'static str, &'static str)> {
+    match status {
+        Status::BadTarget => Some(("the settings have no target ", "")),
+        Status::BadSlot => Some(("the devicetree has no such slot for the device: ", "")),
+        Status::ImageTooLong => Some(("the image is longer than the slot: it has ", " bytes")),
+        Status::BadDigest => Some(("the image is another, whose SHA-256 is ", "")),
+        Status::LastTarget => Some(("no target has a priority and attempts left beside ", "")),
+        Status::SlotFault => Some(("the slot can't be written at byte ", "")),
         _ => None,
     }
 }

@@ -5,6 +5,7 @@ use crate::device_file::{Access, open_device};
 use crate::disk::{blank_through, write_through};
 use crate::open_error::{Cause, OpenError};
 use crate::plan_file::PlanFile;
+use crate::progress::ProgressLines;
 use crate::read_ahead::ReadAhead;
 use bb_base::{Failed, FaultCount};
 use bb_flash::{Board, Flash, Geometry, Health, Plan};
@@ -19,6 +20,7 @@ pub struct FileBoard<'r> {
     file: File,
     ahead: ReadAhead,
     plan_file: PlanFile,
+    progress: ProgressLines,
     geometry: Geometry,
     faults: FaultCount,
     read_faults: FaultCount,
@@ -47,6 +49,7 @@ impl<'r> FileBoard<'r> {
             file,
             ahead: ReadAhead::of(rt.alloc(), geometry).map_err(no_memory)?,
             plan_file: PlanFile::of(rt, path, plan).map_err(no_memory)?,
+            progress: ProgressLines::none(),
             geometry,
             faults: FaultCount::none(),
             read_faults: FaultCount::none(),
@@ -59,6 +62,11 @@ impl<'r> FileBoard<'r> {
     /// Makes way for a boot's plan, as `PlanFile::make_way` says. The device is at this path.
     pub fn make_way(&self, path: &str) -> Result<(), OpenError> {
         self.plan_file.make_way(self.rt, path, &self.file)
+    }
+
+    /// Each 65,536 bytes that are written from now on are told on standard error.
+    pub fn tell_progress(&mut self) {
+        self.progress.begin();
     }
 
     /// The system's error at the call of the device that failed last.
@@ -102,6 +110,7 @@ impl<'r> Flash for FileBoard<'r> {
             self.faults.raise();
             return Err(Failed);
         }
+        self.progress.count(self.rt, bytes.len());
         Ok(())
     }
 

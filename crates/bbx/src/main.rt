@@ -14,6 +14,7 @@ mod open_error;
 mod output;
 mod place;
 mod plan_file;
+mod progress;
 mod read_ahead;
 mod real_files;
 mod usage;
@@ -85,7 +86,7 @@ fn error_of<W: Write>(
 ) -> Option<io::Error> {
     match status {
         Status::FileMissing | Status::FileFault => files.error(),
-        Status::ReadFault | Status::WriteFault => board.error(),
+        Status::ReadFault | Status::WriteFault | Status::SlotFault => board.error(),
         Status::StartFailed => board.start_error(),
         Status::SinkFault => out.error(),
         _ => None,
@@ -118,7 +119,10 @@ fn open<'r>(
     };
     let path = device.path.as_str();
     let plan = options.plan.as_ref().map(|plan| plan.as_str());
-    let board = FileBoard::open(rt, path, geometry, access, plan)?;
+    let mut board = FileBoard::open(rt, path, geometry, access, plan)?;
+    if options.progress {
+        board.tell_progress();
+    }
     if starts_a_system(words) {
         board.make_way(path)?;
     }

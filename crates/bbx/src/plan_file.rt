@@ -126,10 +126,7 @@ fn plan_text(alloc: Global, plan: &Plan) -> Result<Bytes, NoMemory>
 fn add_initrds(text: &mut Bytes, initrds: &TextList) -> Result<(), NoMemory>
     ensures { OnOk result (text.new ≡ text.old ++ initrd_lines initrds.now) }
 {
-    for place in 0..initrds.len() {
-        let Some(initrd) = initrds.get(place) else {
-            unreachable!()
-        };
+    for initrd in initrds.as_slice() {
         add_line(text, "initrd", initrd.as_str())?;
     }
     Ok(())

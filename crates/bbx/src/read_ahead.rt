@@ -77,7 +77,8 @@ impl ReadAhead {
             },
             end: at.saturating_add(out.len() as u64),
         };
-        if self.kept(at, out.len()).is_none() {
+        // what is longer than a piece isn't read ahead
+        if out.len() <= self.most_len && self.kept(at, out.len()).is_none() {
             self.keep(file, self.piece_at(at));
         }
         match self.kept(at, out.len()) {

@@ -11,6 +11,8 @@ OPTIONS
   --plan=FILE          in front of DEVICE: a boot's plan goes to FILE, which is tried out before
   --read-only          in front of DEVICE: it is only read, and neither made nor filled up
   --explain            in front of DEVICE: a sentence on standard error for each fault line
+  --progress           in front of DEVICE: a line on standard error for each 65536 bytes that
+                       are written to it
 
 DEVICE
   a regular file: outside /dev it is filled up with 0xff where it is absent or short
@@ -60,6 +62,27 @@ COMMAND
                        good, and boot. A start ends it, and DEVICE.plan has its plan, as after a
                        boot. Prints what the script sends.
      -x FILE           the script, up to 65536 bytes
+  install -i FILE -c FILE -t TARGET -p LABEL -f IMAGE --sha256 HEX [-n NAME] [-k FILE]
+                       reads what `mark-good` reads, and the image, whose SHA-256 has to be HEX.
+                       Disables the target and saves that, writes the image to the slot, enables
+                       the target with its default priority and attempts, and saves that.
+                       Another target must have a priority and attempts left. Prints
+                       `installed`, the target, and the length of the image.
+     -t TARGET         the name of the target, as the settings have it
+     -p LABEL          the slot: the first node of the devicetree that has this label. Its reg
+                       is an offset and a size, and it shares no byte with the partition of the
+                       copies.
+     -f IMAGE          the image, up to 1048576 bytes
+     --sha256 HEX      64 hexadecimal digits, as sha256sum prints them
+  verify -i FILE -p LABEL -f IMAGE [-n NAME]
+                       compares the slot with the image, and loads nothing. Prints `same`, or
+                       `differs` and the first byte that differs, from 0.
+  history -i FILE [-n NAME] [-k FILE]
+                       reads the devicetree as `state` does, and what the copies' regions still
+                       hold. Prints for each copy how many areas pass there, and then each
+                       area's variables, oldest first. A log may hold many, other storage one.
+                       It changes nothing of the device, and doesn't say that an older area was
+                       ever acknowledged.
   menu --dir DIR       prints a line for each boot entry of the folder DIR: its file's name, a
                        space and its title. Where the title is empty, `linux` stands in its
                        place. The first is the one that starts a target whose setting names the
@@ -104,4 +127,12 @@ STATUS
                  none. The line has the cause.
   18 NoGood      no target was chosen last. The line has last_chosen.
   20 NoMemory    memory was refused
+  22 BadTarget   the settings have no such target. The line has its name.
+  23 BadSlot     no slot has the label, or it can't stand there. The line has the cause.
+  24 BadDigest   the image is another. The line has its SHA-256.
+  25 ImageTooLong  the image is longer than the slot. The line has its bytes.
+  26 LastTarget  no other target has a priority and attempts left. Nothing is saved. The line
+                 has the name of the target.
+  27 SlotFault   the slot can't be written. The line has the place on the device from which on
+                 it couldn't. The target stays disabled.
 ";

@@ -10,6 +10,7 @@ mod each_fault;
 mod each_fault_in_blocks;
 mod entries;
 mod faults;
+mod grown;
 mod mended;
 mod old_record;
 mod rig;

@@ -7,7 +7,9 @@ pub enum Entry {
     One,
     /// The same of the number 2.
     Two,
-    /// The first 14 of these bytes, over blank ones.
+    /// The same of the number 2 and, after it, the number 8.
+    Grown,
+    /// The first 14 bytes of those of 2, over blank ones.
     Half,
     /// The entry of 1 with its front voided.
     Voided,
@@ -42,6 +44,7 @@ impl Entry {
         match self {
             Entry::One => ONE,
             Entry::Two => TWO,
+            Entry::Grown => GROWN,
             Entry::Half => HALF,
             Entry::Voided => VOIDED,
             Entry::BlockOne => BLOCK_ONE,
@@ -64,6 +67,9 @@ const ONE: &[u8] = b"\xf3\xfd\x54\x23\x14\x00\x00\x00\x78\x56\x34\x12\x00\x00\x0
 
 const TWO: &[u8] = b"\xf3\xfd\x54\x23\x14\x00\x00\x00\x78\x56\x34\x12\x00\x00\x04\x00\
     \x97\x17\x4d\x8b\xa9\x2b\x64\xb7\x02\x00\x00\x00";
+
+const GROWN: &[u8] = b"\xf3\xfd\x54\x23\x18\x00\x00\x00\x78\x56\x34\x12\x00\x00\x08\x00\
+    \xfb\xf0\xb3\xe2\x83\x70\xaa\xa3\x02\x00\x00\x00\x08\x00\x00\x00";
 
 const HALF: &[u8] = b"\xf3\xfd\x54\x23\x14\x00\x00\x00\x78\x56\x34\x12\x00\x00\xff\xff\
     \xff\xff\xff\xff\xff\xff\xff\xff\xff\xff\xff\xff";

@@ -11,6 +11,8 @@ use std::test::Fail;
 pub enum Rig {
     /// A device of 192 bytes that holds one number of 4 bytes in three strides.
     Strides,
+    /// The same by a layout with one more number of 4 bytes.
+    Grown,
     /// A device of three erase blocks of 256 bytes, in pages of 32. It holds one number of 4 bytes
     /// and a text of 16, so that an entry has two pages, in blocks of one record.
     OneBlock,
@@ -33,6 +35,7 @@ impl Rig {
     pub fn source(self) -> &'static str {
         match self {
             Rig::Strides => STRIDES,
+            Rig::Grown => GROWN,
             Rig::OneBlock => ONE_BLOCK,
             Rig::Log => LOG,
             Rig::Boot => BOOT,
@@ -42,7 +45,7 @@ impl Rig {
 
     fn geometry(self) -> &'static str {
         match self {
-            Rig::Strides => "ov:192",
+            Rig::Strides | Rig::Grown => "ov:192",
             Rig::OneBlock | Rig::Log => "er:32:256:768",
             Rig::Boot | Rig::Kinds => "ov:1048576",
         }
@@ -50,7 +53,7 @@ impl Rig {
 
     fn size(self) -> usize {
         match self {
-            Rig::Strides => 192,
+            Rig::Strides | Rig::Grown => 192,
             Rig::OneBlock | Rig::Log => 768,
             Rig::Boot | Rig::Kinds => 1048576,
         }
@@ -59,7 +62,7 @@ impl Rig {
     // Where the copies begin.
     fn places(self) -> [usize; 3] {
         match self {
-            Rig::Strides => [0, 64, 128],
+            Rig::Strides | Rig::Grown => [0, 64, 128],
             Rig::OneBlock | Rig::Log => [0, 256, 512],
             Rig::Boot | Rig::Kinds => [131072, 131136, 131200],
         }
@@ -139,6 +142,16 @@ const STRIDES: &str = "/dts-v1/;
     state {
         compatible = \"barebox,state\"; magic = <0x12345678>; backend-type = \"raw\"; backend = <1>;
         n@0 { reg = <0 4>; type = \"uint32\"; default = <3>; };
+    };
+};";
+
+const GROWN: &str = "/dts-v1/;
+/ {
+    part { phandle = <1>; reg = <0x0 0xc0>; };
+    state {
+        compatible = \"barebox,state\"; magic = <0x12345678>; backend-type = \"raw\"; backend = <1>;
+        n@0 { reg = <0 4>; type = \"uint32\"; default = <3>; };
+        m@4 { reg = <4 4>; type = \"uint32\"; default = <7>; };
     };
 };";
 

@@ -144,8 +144,8 @@ fn long_is_read_in_pieces(
     long_is_saved(rt, alloc, device)?;
     long_is_saved(rt, alloc, device)?;
     long_is_shown(rt, alloc, device)?;
-    // The record of another length passes nothing.
-    shows(rt, alloc, device, NONE)?;
+    // By a layout of another length it shows its first bytes.
+    shows(rt, alloc, device, "00070e151c232a3138\n")?;
     assert_eq!(rt; device.programs(), 6);
     assert_eq!(rt; device.largest_read(), 256);
     Ok(())

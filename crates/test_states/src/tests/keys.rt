@@ -118,7 +118,12 @@ fn a_save_writes_records_with_their_hmac(rt: HostRuntime) -> Result<(), Fail> {
 
 // From a device of these bytes the first copy is loaded, and all copies are whole then.
 fn repairs(rt: &impl Abort, alloc: Global, before: [u8; 192]) -> Result<(), Fail> {
-    let all = Loaded::Copy { used: 0, live: 3 };
+    let all = Loaded::Copy {
+        used: 0,
+        live: 3,
+        len: 1,
+        old: 0,
+    };
     plays_from(
         rt,
         alloc,

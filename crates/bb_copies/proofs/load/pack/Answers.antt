@@ -1,6 +1,8 @@
-use Rattle.std.proofs.Common.{arith}
-use Rattle.std.proofs.lemmas.Grind.{common_steps}
+use Rattle.std.proofs.Common.{◌∙◌, ap, take}
+use Rattle.bb_copies.proofs.Ends.{whole_slice}
 use Rattle.bb_copies.proofs.load.pack.Goals as goal
 
 pub returns-clause-packed : goal.returns-clause-packed
-returns-clause-packed g c = grind (arith, common_steps)
+returns-clause-packed g c =
+    ap (take c.length-len.result) (whole_slice c.pack_into.new.rec c.args.rec.now.items _ (c.pack_into.auto.rec ∙ c.deref_mut.ensures.len))
+    ∙ c.pack_into.ensures.packed

@@ -1,4 +1,4 @@
-use Rattle.std.proofs.Common.{◌≡◌, ◌∙◌, ℕ, List, length, ap, sym, arith}
+use Rattle.std.proofs.Common.{◌≡◌, ◌∙◌, ◌≤◌, ℕ, IfSome, List, Option, length, ap, sym, subst, arith}
 use Rattle.std.proofs.lemmas.List.{length-map}
 use Rattle.std.proofs.lemmas.Grind.{common_steps}
 use Rattle.bb_base.specs.Form.{Form}
@@ -8,7 +8,8 @@ use Rattle.bb_bucket.proofs.Quiet.{keeps_of_quiet, quiet_joined}
 use Rattle.bb_copies.specs.Buckets.{kinds_of}
 use Rattle.bb_copies.proofs.Ends.{whole_slice}
 use Rattle.bb_copies.proofs.Finding.{reading_from}
-use Rattle.bb_copies.proofs.Loads.{look_found, look_none, none_more}
+use Rattle.bb_copies.specs.Loading.{LookGives, looked_in}
+use Rattle.bb_copies.proofs.Loads.{look_found, look_none, looked_inside, none_more}
 use Rattle.bb_copies.proofs.look.find_first.Goals as goal
 
 pub loop-copy-preserved : goal.loop-copy-preserved
@@ -51,8 +52,16 @@ returns-then-is_some-clause-gives g c =
     let copy : ℕ = c.loop-copy.copy in
     let out : List ℕ = c.read_at.new.area in
     let many : length kinds ≡ length c.args.buckets.now.items = length-map c.args.buckets.now.items _ in
-    look_found form kinds out copy c.in_ok-passed.passed from (omega (arith, many, c.len-copy-end.ensures, c.args.buckets.now.ok)) (sym c.is_some.ensures ∙ c.if-is_some.true) i.none
-    (λ image e. reading_from form kinds (kinds_of g.B.Bucket.holding c.loop-copy.buckets.items) copy image out c.in_ok-passed.passed from mid (keeps_of_quiet _ _ i.quiet) i.kinds (r.done image ((keeps_of_quiet _ _ i.quiet).content ∙ e)))
+    subst (λ (found : Option ℕ). LookGives form kinds from (looked_in out found)) (sym c.len_of.ensures)
+    (look_found form kinds out copy c.in_ok-passed.passed from (omega (arith, many, c.len-copy-end.ensures, c.args.buckets.now.ok)) (sym c.is_some.ensures ∙ c.if-is_some.true) i.none
+    (λ image e. reading_from form kinds (kinds_of g.B.Bucket.holding c.loop-copy.buckets.items) copy image out c.in_ok-passed.passed from mid (keeps_of_quiet _ _ i.quiet) i.kinds (r.done image ((keeps_of_quiet _ _ i.quiet).content ∙ e))))
+
+pub returns-then-is_some-clause-inside : goal.returns-then-is_some-clause-inside
+returns-then-is_some-clause-inside g c =
+    let out : List ℕ = c.read_at.new.area in
+    let form : Form = g.M.Format.form c.args.format.now in
+    subst (λ (found : Option ℕ). IfSome found (λ len. len ≤ length out)) (sym c.len_of.ensures)
+    (looked_inside form out c.in_ok-passed.passed c.in_ok-passed.ensures.fits)
 
 pub returns-clause-gives : goal.returns-clause-gives
 returns-clause-gives g c =

@@ -1,13 +1,16 @@
-use Rattle.std.proofs.Common.{◌≡◌, ◌∙◌, ℕ, ◌<◌, Bool, List, length, set, length-set, ap, sym, subst, arith}
+use Rattle.std.proofs.Common.{◌≡◌, ◌∙◌, ℕ, ◌<◌, ◌≤◌, Bool, IfSome, List, Option, length, set, length-set, ap, sym, subst, arith}
 use Rattle.std.proofs.lemmas.List.{length-map}
 use Rattle.bb_base.specs.Form.{Form}
 use Rattle.bb_flash.specs.Device.{Device}
 use Rattle.bb_bucket.specs.Kind.{BucketKind}
 use Rattle.bb_bucket.proofs.Quiet.{keeps_of_quiet, quiet_joined}
-use Rattle.bb_copies.specs.Buckets.{kinds_of}
-use Rattle.bb_copies.specs.Looking.{FindsBelow, area_by, good_by}
+use Rattle.bb_copies.specs.Buckets.{IsFoundWithin, kinds_of}
+use Rattle.bb_copies.specs.declared.look.FirstCopy.{FirstCopy}
+use Rattle.bb_copies.specs.declared.read.PassingCopy.{PassingCopy}
+use Rattle.bb_copies.specs.Looking.{FindsBelow, IsFirstNow, area_by, copy_of, front_kept, good_by}
+use Rattle.bb_copies.specs.Passing.{FitsFront}
 use Rattle.bb_copies.proofs.Ends.{whole_slice}
-use Rattle.bb_copies.proofs.Finding.{finds_step, fits_step, inside_step, reading_from}
+use Rattle.bb_copies.proofs.Finding.{finds_step, first_front, first_number, inside_step, known_inside, known_parts, known_step, reading_from, some_weaker}
 use Rattle.bb_copies.proofs.Placed.{placed_all}
 use Rattle.bb_copies.proofs.look.look_over.Goals as goal
 
@@ -26,15 +29,29 @@ loop-copy-preserved g c =
     let is_out : c.deref.result.now ≡ out = c.deref.ensures.value ∙ whole_slice out c.loop-copy.room.area.items _ (c.read_at.auto.area ∙ c.deref_mut-in-loop-copy.ensures.len) in
     let inside : copy < length good = omega (arith, i.marks, c.requires.marks, c.len-copy-end.ensures, c.args.buckets.now.ok) in
     let size : length (set good copy c.compare-first.result.1) ≡ length good = length-set good copy c.compare-first.result.1 in
-    let is_area = m.area ∙ ap (λ xs. area_by xs c.in_ok-passed.passed c.loop-copy.area c.loop-copy.used) is_out in
-    let is_good = m.good ∙ ap (λ xs. good_by xs c.in_ok-passed.passed c.compare-first.new.area) is_out in
+    let passed : Option PassingCopy = c.in_ok-passed.passed in
+    let used : Option FirstCopy = c.loop-copy.used in
+    let now : Option FirstCopy = c.compare-first.result.0 in
+    let area : List ℕ = c.loop-copy.area in
+    let new : List ℕ = c.compare-first.new.area in
+    let step : IsFirstNow copy out passed area new used now =
+    subst (λ (xs : List ℕ). IsFirstNow copy xs passed area new used now) is_out m.first in
+    let is_area = first_front copy out passed area new used now step in
+    let is_good =
+    m.good ∙ ap (λ xs. good_by xs passed (area_by xs passed (front_kept used area) (copy_of used))) is_out
+    ∙ ap (good_by out passed) (sym is_area) in
+    let found : length out ≡ length new =
+    c.read_at.auto.area ∙ ap length c.deref_mut-in-loop-copy.ensures.value ∙ i.memory.area
+    ∙ sym (c.compare-first.auto.area ∙ i.sized ∙ c.requires.area) in
     record {
       finds = λ image e.
-          finds_step form from.geometry.page kinds copy out c.loop-copy.area c.compare-first.new.area good c.compare-first.result.1 c.in_ok-passed.passed image c.loop-copy.used c.compare-first.result.0
-          m.used is_area is_good inside (i.finds image e)
-          (reading_from form kinds (kinds_of g.B.Bucket.holding c.loop-copy.buckets.items) copy image out c.in_ok-passed.passed from mid (keeps_of_quiet _ _ i.quiet) i.kinds (r.done image ((keeps_of_quiet _ _ i.quiet).content ∙ e)));
-      inside = inside_step copy c.in_ok-passed.passed c.loop-copy.used c.compare-first.result.0 m.used i.inside;
-      fits = fits_step form copy out c.loop-copy.area c.compare-first.new.area c.in_ok-passed.passed c.loop-copy.used c.compare-first.result.0 m.used is_area i.fits r.fits;
+          finds_step form from.geometry.page kinds copy out (front_kept used area) (front_kept now new) good c.compare-first.result.1 passed image (copy_of used) (copy_of now)
+          (first_number copy out passed area new used now step) is_area is_good inside (i.finds image e)
+          (reading_from form kinds (kinds_of g.B.Bucket.holding c.loop-copy.buckets.items) copy image out passed from mid (keeps_of_quiet _ _ i.quiet) i.kinds (r.done image ((keeps_of_quiet _ _ i.quiet).content ∙ e)));
+      inside = inside_step copy passed used now (first_number copy out passed area new used now step) i.inside;
+      known =
+          known_step form kinds copy out passed area new used now step (sym found) r.fits
+          (subst (λ (ks : List BucketKind). IfSome passed (λ p. IsFoundWithin form ks p.len)) i.kinds r.room) i.known;
       quiet = quiet_joined from mid _ i.quiet r.quiet;
       faults = r.faults ∙ i.faults;
       read_faults = r.read_faults ∙ i.read_faults;
@@ -58,7 +75,33 @@ returns-clause-done g c =
     let from : Device = g.F.Flash.device c.args.flash.now in
     let kinds : List BucketKind = kinds_of g.B.Bucket.holding c.args.buckets.now.items in
     let all : c.loop-copy.copy ≡ length c.args.buckets.now.items = omega (arith, c.len-copy-end.ensures, c.args.buckets.now.ok) in
-    λ image e. subst (λ (n : ℕ). FindsBelow form from.geometry.page kinds n c.loop-copy.area c.loop-copy.good.items image c.loop-copy.used) all (i.finds image e)
+    let used : Option FirstCopy = c.loop-copy.used in
+    let area : List ℕ = c.loop-copy.area in
+    λ image e. subst (λ (n : ℕ). FindsBelow form from.geometry.page kinds n (front_kept used area) c.loop-copy.good.items image (copy_of used)) all (i.finds image e)
+
+pub returns-clause-fits : goal.returns-clause-fits
+returns-clause-fits g c =
+    let form : Form = g.M.Format.form c.args.format.now in
+    (known_parts form (kinds_of g.B.Bucket.holding c.args.buckets.now.items) c.loop-copy.used c.loop-copy.area c.loop-copy.invariant.known).0
+
+pub returns-clause-room : goal.returns-clause-room
+returns-clause-room g c =
+    let form : Form = g.M.Format.form c.args.format.now in
+    (known_parts form (kinds_of g.B.Bucket.holding c.args.buckets.now.items) c.loop-copy.used c.loop-copy.area c.loop-copy.invariant.known).1
+
+pub compare-first-requires-clause-found : goal.compare-first-requires-clause-found
+compare-first-requires-clause-found g c =
+    let r = c.in_ok-passed.ensures in
+    let out : List ℕ = c.read_at.new.area in
+    let is_out : c.deref.result.now ≡ out = c.deref.ensures.value ∙ whole_slice out c.loop-copy.room.area.items _ (c.read_at.auto.area ∙ c.deref_mut-in-loop-copy.ensures.len) in
+    let form : Form = g.M.Format.form c.args.format.now in
+    subst (λ (xs : List ℕ). IfSome c.in_ok-passed.passed (λ p. p.len ≤ length xs)) (sym is_out)
+    (some_weaker c.in_ok-passed.passed (λ p. FitsFront form p.len out) (λ p. p.len ≤ length out) (λ p fits. fits.inside) r.fits)
+
+pub compare-first-requires-clause-used : goal.compare-first-requires-clause-used
+compare-first-requires-clause-used g c =
+    let form : Form = g.M.Format.form c.args.format.now in
+    known_inside form (kinds_of g.B.Bucket.holding c.args.buckets.now.items) c.loop-copy.used c.loop-copy.area c.loop-copy.invariant.known
 
 pub returns-clause-placed : goal.returns-clause-placed
 returns-clause-placed g c =

@@ -1,4 +1,4 @@
-use Rattle.std.proofs.Common.{ℕ, List, Option, IsTrue, length, set, refl}
+use Rattle.std.proofs.Common.{ℕ, ◌≤◌, IfSome, List, Option, IsTrue, arith, length, min, set, refl}
 use Rattle.std.specs.Option.{ForSome}
 use Rattle.std.proofs.lemmas.Option.{slice_get_read}
 use Rattle.bb_base.specs.Form.{Form}
@@ -6,11 +6,11 @@ use Rattle.bb_flash.specs.Device.{Device, content}
 use Rattle.bb_bucket.specs.Kind.{BucketKind}
 use Rattle.bb_bucket.proofs.Quiet.{keeps_of_quiet}
 use Rattle.bb_copies.specs.declared.read.PassingCopy.{PassingCopy}
-use Rattle.bb_copies.specs.Buckets.{kinds_of}
+use Rattle.bb_copies.specs.Buckets.{IsFoundWithin, kinds_of}
 use Rattle.bb_copies.specs.Looking.{IsReadAt}
 use Rattle.bb_copies.specs.Passing.{IsReading}
 use Rattle.bb_copies.specs.Placing.{PlacesCopy}
-use Rattle.bb_copies.proofs.Finding.{ok_weaker, read_agrees}
+use Rattle.bb_copies.proofs.Finding.{ok_weaker, read_agrees, some_weaker}
 use Rattle.bb_copies.proofs.Many.{kind_at, set_kinds}
 use Rattle.bb_copies.proofs.Placed.{on_ok, set_places}
 use Rattle.bb_copies.proofs.Settled.{at_copy}
@@ -39,6 +39,19 @@ returns-clause-done g c =
     (λ (passed : Option PassingCopy). ForSome (content from) (λ image. IsReadAt form from.geometry.page kinds c.args.copy image out passed))
     (λ passed reading image e. at_copy (λ k. IsReading form from.geometry.page k image out passed) kinds c.args.copy kind here (reading image e))
     c.read_copy.ensures.done
+
+pub returns-clause-room : goal.returns-clause-room
+returns-clause-room g c =
+    let form : Form = g.M.Format.form c.args.format.now in
+    let kinds : List BucketKind = kinds_of g.B.Bucket.holding c.args.buckets.now.items in
+    let kind : BucketKind = (g.B.Bucket.holding c.index_mut.result.now).kind in
+    let there = slice_get_read c.args.buckets.now.items (length c.args.buckets.now.items) c.args.copy _ refl c.requires.inside c.index_mut.ensures.value in
+    let here = kind_at g.B.Bucket.holding c.args.buckets.now.items c.args.copy _ there in
+    ok_weaker c.read_copy.result (λ (passed : Option PassingCopy). IfSome passed (λ found. form.length_of found.len ≤ min form.reach kind.room))
+    (λ (passed : Option PassingCopy). IfSome passed (λ found. IsFoundWithin form kinds found.len))
+    (λ passed known. some_weaker passed (λ found. form.length_of found.len ≤ min form.reach kind.room) (λ found. IsFoundWithin form kinds found.len)
+    (λ found small bound most. let enough = most c.args.copy kind here in omega (arith, small, enough)) known)
+    c.read_copy.ensures.room
 
 pub returns-clause-kinds : goal.returns-clause-kinds
 returns-clause-kinds g c =

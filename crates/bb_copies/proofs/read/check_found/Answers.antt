@@ -1,10 +1,10 @@
-use Rattle.std.proofs.Common.{◌≡◌, ◌+◌, ◌++◌, ◌∙◌, ℕ, List, Some, sym, ap, subst, length, take, arith}
+use Rattle.std.proofs.Common.{◌≡◌, ◌≤◌, min, length-append, ◌+◌, ◌++◌, ◌∙◌, ap, length, arith}
 use Rattle.std.proofs.lemmas.Grind.{common_steps}
 use Rattle.bb_flash.specs.declared.geometry.Geometry.{Geometry}
 use Rattle.bb_bucket.specs.Calls.{candidate_in}
 use Rattle.bb_bucket.specs.Kind.{BucketKind}
 use Rattle.bb_bucket.proofs.Quiet.{keeps_of_quiet, quiet_joined}
-use Rattle.bb_copies.proofs.Pieced.{fed_next, found_len, pieces_passed, whole_fits, whole_passed}
+use Rattle.bb_copies.proofs.Pieced.{fed_next, found_len, pieces_passed, whole_fits, whole_passed, whole_room}
 use Rattle.bb_copies.proofs.read.check_found.Goals as goal
 
 pub loop-from-preserved : goal.loop-from-preserved
@@ -24,6 +24,7 @@ loop-from-preserved g c =
             (r.done image (keeps.content ∙ told) bytes
             (ap (λ (geometry : Geometry). candidate_in (g.B.Bucket.holding c.loop-from.bucket).kind geometry.page image) keeps.geometry
             ∙ ap (λ (kind : BucketKind). candidate_in kind (g.F.Flash.device c.args.flash.now).geometry.page image) i.kind ∙ is)) long,
+        length-append i.fed.0 next ∙ ap (λ n. n + length next) i.fed.3 ∙ long,
       );
       quiet = quiet_joined (g.F.Flash.device c.args.flash.now) (g.F.Flash.device c.loop-from.flash) (g.F.Flash.device c.part.new.flash) i.quiet r.quiet;
       faults = r.faults ∙ i.faults;
@@ -41,7 +42,7 @@ returns-clause-done g c = λ image told bytes is.
     let form = g.M.Format.form c.args.format.now in
     let laws = g.met.M.Format.laws c.args.format.now in
     let whole = found_len _ c.args.len bytes _ c.requires.found (c.requires.agreed.found image told) is in
-    whole_passed form bytes c.loop-from.area c.end.result laws i.area
+    whole_passed form bytes c.loop-from.area c.end.result
     (pieces_passed form bytes i.fed.0 c.loop-from.area c.loop-from.from c.end.result laws
     (omega arith) (i.fed.2 image told bytes is) (c.end.ensures i.fed.0 i.fed.1))
 
@@ -50,3 +51,11 @@ returns-clause-fits g c =
     let i = c.loop-from.invariant in
     whole_fits (g.M.Format.form c.args.format.now) i.fed.0 c.loop-from.area c.end.result (g.met.M.Format.laws c.args.format.now) i.area
     (c.end.ensures i.fed.0 i.fed.1)
+
+pub returns-clause-room : goal.returns-clause-room
+returns-clause-room g c =
+    let i = c.loop-from.invariant in
+    let form = g.M.Format.form c.args.format.now in
+    let small : length i.fed.0 ≤ min form.reach c.args.len = let counted = i.fed.3 in omega arith in
+    whole_room form i.fed.0 c.loop-from.area c.end.result (min form.reach c.args.len)
+    (g.met.M.Format.laws c.args.format.now) small (c.end.ensures i.fed.0 i.fed.1)

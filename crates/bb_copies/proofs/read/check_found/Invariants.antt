@@ -13,7 +13,8 @@ invariant-loop-from g l =
       inside : l.from ≤ l.count;
       fed :
           (fed : List ℕ) × (g.M.Format.holds l.format l.feed fed l.area)
-          × (ForSome (content from) (λ image. ForSome (candidate_in (g.B.Bucket.holding l.fn.bucket).kind from.geometry.page image) (λ bytes. fed ≡ take l.from bytes)));
+          × (ForSome (content from) (λ image. ForSome (candidate_in (g.B.Bucket.holding l.fn.bucket).kind from.geometry.page image) (λ bytes. fed ≡ take l.from bytes)))
+          × (length fed ≡ l.from);
       quiet : IsQuiet from now;
       faults : now.faults ≡ from.faults;
       read_faults : now.read_faults ≡ from.read_faults;

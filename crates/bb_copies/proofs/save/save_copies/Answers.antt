@@ -1,4 +1,4 @@
-use Rattle.std.proofs.Common.{◌≡◌, ◌∙◌, ℕ, Bool, List, Some, count_by, length, sym, subst, ap, refl}
+use Rattle.std.proofs.Common.{◌≡◌, ◌∙◌, ◌≤◌, ℕ, Bool, List, count_by, length, sym, subst, take, ap, arith, refl}
 use Rattle.std.proofs.lemmas.List.{length-map}
 use Rattle.bb_base.specs.Form.{Form}
 use Rattle.bb_flash.specs.Device.{Device}
@@ -6,8 +6,9 @@ use Rattle.bb_bucket.specs.Kind.{BucketKind}
 use Rattle.bb_copies.specs.Buckets.{kinds_of}
 use Rattle.bb_copies.specs.Erasing.{ErasesBy, IsBounded}
 use Rattle.bb_copies.specs.Refreshing.{IsFirstMarked}
-use Rattle.bb_copies.specs.Saving.{EachWritten, IsSaved}
+use Rattle.bb_copies.specs.Saving.{EachWritten}
 use Rattle.bb_copies.proofs.Loads.{all_kept}
+use Rattle.bb_copies.proofs.Rooms.{packed_room}
 use Rattle.bb_copies.proofs.Runs.{later_refl}
 use Rattle.bb_copies.proofs.Saves.{save_runs}
 use Rattle.bb_copies.proofs.save.save_copies.Goals as goal
@@ -35,7 +36,7 @@ returns-in-Ok-clause-save g c =
     let kinds : List BucketKind = kinds_of g.B.Bucket.holding c.args.buckets.now.items in
     let from : Device = g.F.Flash.device c.args.flash.now in
     let to : Device = g.F.Flash.device c.save_all.new.flash in
-    let packed = c.deref.ensures.value ∙ c.pack.ensures.packed in
+    let packed = c.front-packed.ensures ∙ ap (take c.pack-len.result) c.deref.ensures.value ∙ c.pack-len.ensures.packed in
     record {
       unsure = (λ e. absurd cc, λ e. absurd cc);
       runs =
@@ -57,14 +58,29 @@ returns-in-Err-clause-save g c =
       unsure = (λ e. absurd cc, λ e. absurd cc);
       runs =
           save_runs form kinds c.args.used c.args.area.now from to c.save_all.ensures.refreshes c.save_all.ensures.spares
-          (subst (λ (rec : List ℕ). IsBounded kinds rec from to) (c.deref.ensures.value ∙ c.pack.ensures.packed) c.save_all.ensures.bounds);
+          (subst (λ (rec : List ℕ). IsBounded kinds rec from to) (c.front-packed.ensures ∙ ap (take c.pack-len.result) c.deref.ensures.value ∙ c.pack-len.ensures.packed) c.save_all.ensures.bounds);
       stored = tt;
       fails = c.in-Err.ensures.fails;
       exact = λ quiet. tt;
       erases = λ quiet. tt;
     }
 
-pub pack-requires-clause-whole : goal.pack-requires-clause-whole
-pack-requires-clause-whole g c =
+pub pack-len-requires-clause-most : goal.pack-len-requires-clause-most
+pack-len-requires-clause-most g c = (g.met.M.Format.laws c.args.format.now).most c.args.area.now c.requires.fits
+
+pub front-packed-requires : goal.front-packed-requires
+front-packed-requires g c =
+    let size = c.pack-len.ensures.«record» in
+    let within = c.pack-len.ensures.within in
+    subst (λ (xs : List ℕ). c.pack-len.result ≤ length xs) (sym c.deref.ensures.value) (omega (arith, size, within))
+
+pub save_all-requires-clause-packed : goal.save_all-requires-clause-packed
+save_all-requires-clause-packed g c =
+    c.front-packed.ensures ∙ ap (take c.pack-len.result) c.deref.ensures.value ∙ c.pack-len.ensures.packed
+
+pub save_all-requires-clause-room : goal.save_all-requires-clause-room
+save_all-requires-clause-room g c =
     let form : Form = g.M.Format.form c.args.format.now in
-    c.requires.«record» ∙ ap form.length_of (sym ((g.met.M.Format.laws c.args.format.now).sized c.args.area.now c.requires.fits))
+    let kinds : List BucketKind = kinds_of g.B.Bucket.holding c.args.buckets.now.items in
+    packed_room form kinds c.args.area.now c.front-packed.result.now (g.met.M.Format.laws c.args.format.now) c.requires.fits
+    (c.front-packed.ensures ∙ ap (take c.pack-len.result) c.deref.ensures.value ∙ c.pack-len.ensures.packed) c.requires.room

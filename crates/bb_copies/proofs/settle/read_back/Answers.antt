@@ -1,6 +1,8 @@
-use Rattle.std.proofs.Common.{◌∙◌, ℕ, List, ap, sym, subst, refl, option_map, arith}
+use Rattle.std.proofs.Common.{◌≡◌, ◌∙◌, ◌≤◌, ℕ, IfSome, List, Option, ap, length, sym, subst, refl, option_map, arith, take}
 use Rattle.std.proofs.lemmas.Grind.{common_steps}
 use Rattle.bb_bucket.proofs.Quiet.{keeps_of_quiet}
+use Rattle.bb_copies.specs.declared.read.PassingCopy.{PassingCopy}
+use Rattle.bb_copies.specs.Passing.{FitsFront}
 use Rattle.bb_copies.specs.Settling.{IsCompared}
 use Rattle.bb_copies.proofs.Ends.{read_as, whole_slice}
 use Rattle.bb_copies.proofs.OneCopy.{read_copy_settles}
@@ -11,10 +13,21 @@ pub returns-in-Ok-Some-clause-ends : goal.returns-in-Ok-Some-clause-ends
 returns-in-Ok-Some-clause-ends g c =
     let out : List ℕ = c.read_copy.new.area in
     let here = c.deref.ensures.value ∙ whole_slice out c.args.room.now.area.items _ (c.read_copy.auto.area ∙ c.deref_mut-2.ensures.len) in
-    read_as (g.M.Format.form c.args.format.now) (g.B.Bucket.holding c.args.bucket.now).kind c.args.area.now out (g.F.Flash.device c.args.flash.now) (g.F.Flash.device c.read_copy.new.flash) c.compare_areas.result
-    (subst (λ (xs : List ℕ). IsCompared xs c.args.area.now c.compare_areas.result) here c.compare_areas.ensures)
+    let len : ℕ = c.in-Ok-Some.found.len in
+    let passed : List ℕ = take len out in
+    let is : c.front-passed.result.now ≡ passed = c.front-passed.ensures ∙ ap (take len) here in
+    read_as (g.M.Format.form c.args.format.now) (g.B.Bucket.holding c.args.bucket.now).kind c.args.area.now passed (g.F.Flash.device c.args.flash.now) (g.F.Flash.device c.read_copy.new.flash) c.compare_areas.result
+    (subst (λ (xs : List ℕ). IsCompared xs c.args.area.now c.compare_areas.result) is c.compare_areas.ensures)
     (keeps_of_quiet _ _ c.in-Ok-Some.ensures.quiet).content
-    (λ image e. ap (option_map (λ _. out)) (sym c.in-Ok-Some.field-0-is) ∙ (c.in-Ok-Some.ensures.done image e).area)
+    (λ image e. ap (option_map (λ (found : PassingCopy). take found.len out)) (sym c.in-Ok-Some.field-0-is) ∙ (c.in-Ok-Some.ensures.done image e).area)
+
+pub front-passed-requires : goal.front-passed-requires
+front-passed-requires g c =
+    let out : List ℕ = c.read_copy.new.area in
+    let here = c.deref.ensures.value ∙ whole_slice out c.args.room.now.area.items _ (c.read_copy.auto.area ∙ c.deref_mut-2.ensures.len) in
+    let form = g.M.Format.form c.args.format.now in
+    let fits = subst (λ (o : Option PassingCopy). IfSome o (λ found. FitsFront form found.len out)) c.in-Ok-Some.field-0-is c.in-Ok-Some.ensures.fits in
+    subst (λ (xs : List ℕ). c.in-Ok-Some.found.len ≤ length xs) (sym here) fits.inside
 
 pub returns-in-Ok-Some-clause-settles : goal.returns-in-Ok-Some-clause-settles
 returns-in-Ok-Some-clause-settles g c =

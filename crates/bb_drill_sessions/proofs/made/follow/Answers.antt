@@ -5,6 +5,7 @@ use Rattle.bb_plan.specs.Plan.{IsServed, keyed_as}
 use Rattle.bb_plan.specs.declared.plan.Work.{Work}
 use Rattle.bb_plan.specs.declared.plan.Work.TheVariants.{Act}
 use Rattle.bb_drill_sessions.specs.Rules.{made_by}
+use Rattle.bb_state.proofs.Showing.{own_sized}
 use Rattle.bb_drill_sessions.proofs.Making.{made_once, mark_made}
 use Rattle.bb_drill_sessions.proofs.made.follow.Goals as goal
 
@@ -19,18 +20,20 @@ put_values-requires c =
 pub returns-in_ok-spend-in-Boot : goal.returns-in_ok-spend-in-Boot
 returns-in_ok-spend-in-Boot c =
     let keyed = keyed_as c.args.plan.now.keyed in
-    c.in_ok-spend-in-Boot.ensures keyed
+    let layout = c.args.plan.now.keyed.layout in
+    let own = own_sized keyed.layout c.args.table.now layout.facts c.requires.sized in
+    c.in_ok-spend-in-Boot.ensures keyed own
     ∙ ap (λ (work : Work). made_by (record { keyed = keyed; work = work }) c.args.table.now) (sym c.in-Boot.is)
 
 pub returns-in-Act : goal.returns-in-Act
 returns-in-Act c =
     let keyed = keyed_as c.args.plan.now.keyed in
     c.put_values.ensures.table
-    ∙ made_once (record { keyed = keyed; work = Act c.in-Act.actions }) c.args.table.now refl refl _ refl
+    ∙ made_once (record { keyed = keyed; work = Act c.in-Act.actions }) c.args.table.now (own_sized keyed.layout c.args.table.now c.args.plan.now.keyed.layout.facts c.requires.sized) refl refl _ refl
     ∙ ap (λ (work : Work). made_by (record { keyed = keyed; work = work }) c.args.table.now) (sym c.in-Act.is)
 
 pub returns-in-Good : goal.returns-in-Good
 returns-in-Good c =
     let keyed = keyed_as c.args.plan.now.keyed in
-    c.mark.ensures ∙ mark_made keyed c.in-Good.chooser c.args.table.now
+    c.mark.ensures ∙ mark_made keyed c.in-Good.chooser c.args.table.now (own_sized keyed.layout c.args.table.now c.args.plan.now.keyed.layout.facts c.requires.sized)
     ∙ ap (λ (work : Work). made_by (record { keyed = keyed; work = work }) c.args.table.now) (sym c.in-Good.is)

@@ -19,5 +19,5 @@ returns-clause-sound c = λ calm.
     (λ (end : SessionEnd). EndsSound session_rules session_runs c.args.command (board_state_of c.args.board.now)
     (board_state_of c.do_work.new.board) end)
     (sym c.end_of.ensures)
-    (sound_of c.args.command (plan_as c.in-Ok.plan) c.in-Ok.ensures.is c.args.board.now c.do_work.new.board c.requires
+    (sound_of c.args.command (plan_as c.in-Ok.plan) c.in-Ok.ensures.is c.in-Ok.plan.keyed.layout.facts c.args.board.now c.do_work.new.board c.requires
     c.do_work.result c.do_work.ensures.gives calm)

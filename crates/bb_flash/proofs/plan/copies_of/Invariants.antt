@@ -1,5 +1,6 @@
 use Rattle.std.proofs.Common.{◌≡◌, take}
 use Rattle.bb_flash.proofs.plan.copies_of.Given as goal
 
-abbrev pub invariant-loop-place : goal.invariant-loop-place
-invariant-loop-place l = l.copies ≡ take l.place l.texts
+-- the texts so far are copied
+abbrev pub invariant-loop-text : goal.invariant-loop-text
+invariant-loop-text l = l.copies ≡ take l.text-index l.text-items

@@ -3,5 +3,5 @@ use Rattle.bb_layout.specs.Defaults.{defaults_of}
 use Rattle.bb_layout.proofs.defaults.fill_defaults.Given as goal
 
 -- the defaults of the variables so far are put
-abbrev pub invariant-loop-place : goal.invariant-loop-place
-invariant-loop-place l = (l.out ≡ defaults_of (length l.fn.out) (take l.place l.vars)) × (length l.out ≡ length l.fn.out)
+abbrev pub invariant-loop-var : goal.invariant-loop-var
+invariant-loop-var l = (l.out ≡ defaults_of (length l.fn.out) (take l.var-index l.var-items)) × (length l.out ≡ length l.fn.out)

@@ -30,6 +30,21 @@ returns-in-Shell-clause-read g c =
     same_reading (λ w. command_reading w c.args.geometry) task_as c.in-Shell.is
     c.plan_described-in-Shell.ensures.read
 
+pub returns-in-Install-clause-read : goal.returns-in-Install-clause-read
+returns-in-Install-clause-read g c =
+    same_reading (λ w. command_reading w c.args.geometry) task_as c.in-Install.is
+    c.plan_install.ensures.read
+
+pub returns-in-Verify-clause-read : goal.returns-in-Verify-clause-read
+returns-in-Verify-clause-read g c =
+    same_reading (λ w. command_reading w c.args.geometry) task_as c.in-Verify.is
+    c.plan_verify.ensures.read
+
+pub returns-in-History-clause-read : goal.returns-in-History-clause-read
+returns-in-History-clause-read g c =
+    same_reading (λ w. command_reading w c.args.geometry) task_as c.in-History.is
+    c.plan_described-in-History.ensures.read
+
 pub returns-in_err-text-in-Menu-clause-read : goal.returns-in_err-text-in-Menu-clause-read
 returns-in_err-text-in-Menu-clause-read g c =
     same_reading (λ w. command_reading w c.args.geometry) task_as c.in-Menu.is

@@ -10,6 +10,12 @@ use Rattle.bb_plan.proofs.Planned.{acting_by, unfit}
 use Rattle.bb_plan.proofs.Readings.{gone_on, refused_step, same_reading, step, stopped, yielded}
 use Rattle.bb_plan.proofs.request.read_work.Goals as goal
 
+pub returns-in-History-clause-read : goal.returns-in-History-clause-read
+returns-in-History-clause-read g c =
+    let layout = fields_of c.args.keyed.now.layout in
+    same_reading (λ r. work_reading r layout) (λ (w : Work). w) c.in-History.is
+    (yielded (λ (w : Work). w) refl)
+
 pub returns-in_err-bound-in-Act-clause-read : goal.returns-in_err-bound-in-Act-clause-read
 returns-in_err-bound-in-Act-clause-read g c =
     let layout = fields_of c.args.keyed.now.layout in

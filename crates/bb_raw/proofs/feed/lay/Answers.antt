@@ -1,4 +1,4 @@
-use Rattle.std.proofs.Common.{refl, sym, ap, ◌∙◌, ◌++◌, arith, take, drop, length, ◌-◌, ◌+◌, ◌≤◌}
+use Rattle.std.proofs.Common.{refl, sym, arith}
 use Rattle.std.proofs.lemmas.Grind.{common_steps}
 use Rattle.bb_raw.proofs.Overlay.{laid_is, laid_past}
 use Rattle.bb_raw.proofs.feed.lay.Goals as goal

@@ -1,4 +1,4 @@
-use Rattle.std.proofs.Common.{◌≡◌, refl, sym, ap, ◌∙◌, ◌++◌, arith, take, drop, length, ◌-◌, ◌+◌, ◌≤◌, rules}
+use Rattle.std.proofs.Common.{arith, take}
 use Rattle.std.proofs.lemmas.List.{length-take-le}
 use Rattle.bb_raw.proofs.Overlay.{fed_in}
 use Rattle.bb_raw.proofs.feed.take_in.Goals as goal

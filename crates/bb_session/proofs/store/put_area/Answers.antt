@@ -6,7 +6,7 @@ use Rattle.bb_session.proofs.store.put_area.Goals as goal
 
 pub invariant_of-state-clause-fits : goal.invariant_of-state-clause-fits
 invariant_of-state-clause-fits c =
-    raw_fits c.args.state.now.backing.keyed c.put.new.self c.requires.served.0.format
+    raw_fits c.args.state.now.backing.keyed c.put.new.self c.args.state.now.facts c.requires.served.0.format
     (c.put.ensures.same_length ∙ table_sized c.args.state.now)
 
 pub returns-clause-table : goal.returns-clause-table

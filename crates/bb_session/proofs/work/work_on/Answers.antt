@@ -1,42 +1,53 @@
-use Rattle.std.proofs.Common.{◌≡◌, ℕ, List, false, Option, Ok, refl, subst, sym}
+use Rattle.std.proofs.Common.{◌≡◌, ◌∙◌, ℕ, length, Option, Ok, ap, arith, inr, refl, subst, sym}
+use Rattle.bb_flash.specs.declared.geometry.Geometry.{Geometry}
 use Rattle.bb_state.specs.Keyed.{Keyed}
 use Rattle.bb_copies.specs.Loading.{IsLoad}
 use Rattle.bb_copies.specs.Store.{used_after}
-use Rattle.bb_plan.specs.declared.plan.Work.{Work}
-use Rattle.bb_session.specs.Acting.{needs_table}
-use Rattle.bb_session.specs.Doing.{IsDone}
-use Rattle.bb_session.specs.Work.{IsLoadedArea, IsWorkedOut}
+use Rattle.bb_copies.proofs.Runs.{later_refl}
+use Rattle.bb_plan.specs.declared.refusal.Refusal.TheVariants as refusals
+use Rattle.bb_session.specs.Doing.{IsDone, page_len}
+use Rattle.bb_session.specs.Work.{IsLoadedArea}
 use Rattle.bb_state.specs.Kinds.{laid_form, laid_kinds}
-use Rattle.bb_state.specs.State.{keyed_of}
-use Rattle.bb_session.proofs.Acted.{looks_only}
-use Rattle.bb_session.proofs.Done.{done_later, done_out, done_unloaded}
+use Rattle.bb_state.specs.State.{keyed_of, stored_of}
+use Rattle.bb_session.proofs.Done.{beside_slot, done_later, done_out, done_unloaded}
 use Rattle.bb_session.proofs.Worked.{refused_by}
 use Rattle.bb_session.proofs.work.work_on.Goals as goal
 
-pub returns-then-not-needs_table-clause-gives : goal.returns-then-not-needs_table-clause-gives
-returns-then-not-needs_table-clause-gives g c =
-    let none : needs_table c.args.work ≡ false =
-    (let e = c.needs_table.ensures in let f = c.if-not-needs_table.true in cc) in
-    subst
-    (λ (w : Work). IsWorkedOut (keyed_of c.args.state) w (g.B.Flash.device c.args.board.now)
-    (g.B.Flash.device c.look.new.flash) c.look.result)
-    (sym (looks_only c.args.work none)) c.look.ensures.gives
+-- memory was refused before any call of the device
+pub returns-in_err-page-clause-gives : goal.returns-in_err-page-clause-gives
+returns-in_err-page-clause-gives g c =
+    inr (inr (record {
+      is = refused_by c.from_residual.result refusals.NoMemory c.from_residual.ensures.1;
+      unasked = refl;
+    }))
+
+pub returns-in_err-page-clause-later : goal.returns-in_err-page-clause-later
+returns-in_err-page-clause-later g c = later_refl (g.B.Flash.device c.args.board.now)
 
 pub returns-in_err-load-clause-gives : goal.returns-in_err-load-clause-gives
 returns-in_err-load-clause-gives g c =
     let done = c.in_err-load.ensures.load in
     done_unloaded (keyed_of c.args.state) c.args.work (g.B.Flash.device c.args.board.now)
-    (g.B.Flash.device c.load.new.flash) c.in_err-load.field-0.0 c.from_residual.result
+    (g.B.Flash.device c.load.new.flash) c.in_err-load.field-0.0 c.from_residual-in_err-load.result
     c.requires.on.geometry (let e = c.needs_table.ensures in cc) c.args.state.facts.copied.least
+    (beside_slot (keyed_of c.args.state) c.args.work c.args.state.facts c.requires.served)
     (record {
       images = done.runs.images;
       outside = done.runs.outside;
       later = done.runs.later;
       starts = done.runs.starts;
       gives = tt;
-      fails = record { area = c.load.new.self.backing.kept; fails = done.fails };
+      fails = done.fails;
     })
-    (refused_by c.from_residual.result _ c.from_residual.ensures.1)
+    (refused_by c.from_residual-in_err-load.result _ c.from_residual-in_err-load.ensures.1)
+
+pub work_at-requires-clause-page : goal.work_at-requires-clause-page
+work_at-requires-clause-page g c =
+    let later = c.in_ok-load.ensures.load.runs.later in
+    let same : length c.deref_mut.result.now ≡ c.page_len.result =
+    omega (arith, c.in_ok-page.ensures.len, c.deref_mut.ensures.len) in
+    same ∙ c.page_len.ensures
+    ∙ ap (λ (geometry : Geometry). page_len geometry c.args.work) (c.geometry.ensures.value ∙ sym later.geometry)
 
 pub returns-clause-gives : goal.returns-clause-gives
 returns-clause-gives g c =
@@ -44,20 +55,20 @@ returns-clause-gives g c =
     let mid = g.B.Flash.device c.load.new.flash in
     let to = g.B.Flash.device c.work_at.new.board in
     let table = c.load.new.self.table in
+    let area = stored_of c.load.new.self in
     let done = c.in_ok-load.ensures in
-    let load : IsLoad (laid_form keyed) (laid_kinds keyed.layout) table (g.B.Flash.device c.args.board.now) mid (Ok c.in_ok-load.field-0) =
-    subst (λ (area : List ℕ). IsLoad (laid_form keyed) (laid_kinds keyed.layout) area (g.B.Flash.device c.args.board.now) mid (Ok c.in_ok-load.field-0))
-    done.kept done.load in
-    let gave : IsLoadedArea keyed table c.in_ok-load.field-0 (g.B.Flash.device c.args.board.now) mid =
-    record { gives = load.gives; defaults = done.defaults; exact = load.exact; erases = load.erases } in
-    done_out keyed c.args.work (g.B.Flash.device c.args.board.now) mid to table c.in_ok-load.field-0 c.work_at.result
-    c.requires.on.geometry (let e = c.needs_table.ensures in cc) c.args.state.facts.copied.least gave
+    let load : IsLoad (laid_form keyed) (laid_kinds keyed.layout) area (g.B.Flash.device c.args.board.now) mid (Ok c.in_ok-load.field-0) = done.load in
+    let gave : IsLoadedArea keyed area c.in_ok-load.field-0 (g.B.Flash.device c.args.board.now) mid =
+    record { gives = load.gives; says = load.says; exact = load.exact; erases = load.erases } in
+    done_out keyed c.args.work (g.B.Flash.device c.args.board.now) mid to area table c.in_ok-load.field-0 c.work_at.result
+    c.requires.on.geometry (let e = c.needs_table.ensures in cc) c.args.state.facts.copied.least
+    (beside_slot keyed c.args.work c.args.state.facts c.requires.served) gave done.table
     (record {
       images = load.runs.images;
       outside = load.runs.outside;
       later = load.runs.later;
       starts = load.runs.starts;
-      gives = record { area = table; loaded = c.in_ok-load.field-0; gave = gave; taken = refl; used_is = refl };
+      gives = record { area = area; loaded = c.in_ok-load.field-0; gave = gave; taken = refl; used_is = refl };
       fails = tt;
     })
     (subst (λ (k : Keyed). IsDone k (used_after c.in_ok-load.field-0) table c.args.work mid to c.work_at.result) done.keyed

@@ -4,7 +4,8 @@ use Rattle.bb_copies.proofs.History.{blank_stands}
 use Rattle.bb_state.proofs.Blank.{erased_passes_nothing}
 use Rattle.bb_session.proofs.Kept.{none_all}
 use Rattle.bb_session.specs.Looking.{passed_in}
-use Rattle.bb_plan.specs.Plan.{first_area}
+use Rattle.bb_shell.specs.Stages.{first_area}
+use Rattle.bb_state.proofs.Families.{passed_same}
 use Rattle.bb_tool.proofs.law.law_chronicle.Goals as goal
 
 pub returns-clause-kept : goal.returns-clause-kept
@@ -15,8 +16,11 @@ returns-clause-blank c = λ keyed page image erased.
     let none = erased_passes_nothing keyed page image erased in
     record {
       passes = none_all (passed_in keyed page image) none;
-      stands = blank_stands (first_area keyed.layout) (passed_in keyed page image) none;
+      stands = blank_stands first_area (passed_in keyed page image) none;
     }
+
+pub returns-clause-family : goal.returns-clause-family
+returns-clause-family c = passed_same
 
 pub returns-clause-cut : goal.returns-clause-cut
 returns-clause-cut c = cut_law

@@ -4,11 +4,11 @@ use Rattle.bb_plan.specs.declared.status.Status.TheVariants as statuses
 use Rattle.bb_tool.specs.Calls.{IsSession, KeepsFiles, KeepsHistory, LeavesUnnamedFiles}
 use Rattle.bb_tool.specs.Clauses.{EndsEarly, KeepsTheCopies, KnowsItsCauses, LeavesTheRest, SendsTheSession, StartsTheBest, WorksUndisturbed}
 use Rattle.bb_tool.specs.Ran.{Ran}
-use Rattle.bb_tool.proofs.Endings.{bad_words_of, comes_alone, comes_planned, copy_of_fault, file_fault_of, front_of, read_fault_of, sink_fault_of, sink_faults_of, unasked_of, write_fault_of}
-use Rattle.bb_tool.proofs.Copying.{at_exit, beside, calm_of, on_a_trail, unread_of, write_faults_of}
+use Rattle.bb_tool.proofs.Endings.{bad_words_of, comes_alone, comes_planned, copy_of_fault, file_fault_of, front_of, read_fault_of, sink_fault_of, sink_faults_of, slot_fault_of, slot_place_of, unasked_of, write_fault_of}
+use Rattle.bb_tool.proofs.Copying.{at_exit, beside, calm_of, holds_of, on_a_trail, safe_of, slot_faults_of, unread_of, write_faults_of}
 use Rattle.bb_tool.proofs.ScriptEnds.{no_memory_of, script_failed_of, shown_of, step_limit_of}
 use Rattle.bb_tool.proofs.Starting.{boots_of, rounds_of, start_causes_of, start_failed_of, start_faults_of, starts_of, starts_once_of, starts_saved_of}
-use Rattle.bb_tool.proofs.Tables.{no_good_of, no_target_of}
+use Rattle.bb_tool.proofs.Tables.{last_target_of, no_good_of, no_target_of}
 use Rattle.bb_tool.proofs.Wholes.{early_done_of, early_memory_of, early_of, file_faults_of, undisturbed_alone_of, undisturbed_of, unplanned_alone_of, unplanned_of}
 use Rattle.bb_tool.proofs.session.run.Goals as goal
 
@@ -30,7 +30,13 @@ leaves ran session files unread later = record {
 }
 
 pub keeps : (ran : Ran) → KeepsTheCopies ran
-keeps ran = record { exit = at_exit ran; trail = on_a_trail ran; outside = beside ran }
+keeps ran = record {
+  exit = at_exit ran;
+  trail = on_a_trail ran;
+  outside = beside ran;
+  safe = safe_of ran;
+  holds = holds_of ran;
+}
 
 pub undisturbed : (ran : Ran) → IsSession ran → WorksUndisturbed ran
 undisturbed ran session = record {
@@ -39,6 +45,7 @@ undisturbed ran session = record {
   written = λ calm answers answered. (calm_of ran calm answers answered).left;
   erased = λ calm answers answered. (calm_of ran calm answers answered).erased;
   called = λ calm answers answered. (calm_of ran calm answers answered).called;
+  installed = λ calm answers answered. (calm_of ran calm answers answered).installed;
   passes = λ calm answers answered. (calm_of ran calm answers answered).alike;
 }
 
@@ -73,6 +80,10 @@ causes ran session later = record {
   bad_variable = comes_planned ran session statuses.BadVariable (λ h. cc) (λ h. cc) refl (λ h. cc);
   bad_settings = comes_planned ran session statuses.BadSettings (λ h. cc) (λ h. cc) refl (λ h. cc);
   bad_script = comes_planned ran session statuses.BadScript (λ h. cc) (λ h. cc) refl (λ h. cc);
+  bad_target = comes_planned ran session statuses.BadTarget (λ h. cc) (λ h. cc) refl (λ h. cc);
+  bad_slot = comes_planned ran session statuses.BadSlot (λ h. cc) (λ h. cc) refl (λ h. cc);
+  image_too_long = comes_planned ran session statuses.ImageTooLong (λ h. cc) (λ h. cc) refl (λ h. cc);
+  bad_digest = comes_planned ran session statuses.BadDigest (λ h. cc) (λ h. cc) refl (λ h. cc);
   read_fault = read_fault_of ran session later.read_faults;
   read_fault_content = unread_of ran;
   write_fault = write_fault_of ran session later.faults;
@@ -80,6 +91,10 @@ causes ran session later = record {
   write_fault_cause = write_faults_of ran;
   no_good = no_good_of ran session;
   no_target = no_target_of ran session;
+  last_target = last_target_of ran session;
+  slot_fault = slot_fault_of ran session later.faults;
+  slot_fault_place = slot_place_of ran session;
+  slot_fault_cause = slot_faults_of ran;
   start_failed = start_failed_of ran session;
   start_failed_cause = start_causes_of ran;
   script_failed = script_failed_of ran session;

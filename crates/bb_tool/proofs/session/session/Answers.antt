@@ -7,14 +7,16 @@ use Rattle.bb_flash.specs.declared.geometry.Geometry.{Geometry}
 use Rattle.bb_flash.proofs.Moments.{later_same}
 use Rattle.bb_drill.specs.declared.counts.DrillCounts.{DrillCounts}
 use Rattle.bb_plan.specs.FilesRead.{AreRead, IsReadAs, reads_file}
-use Rattle.bb_plan.specs.Plan.{Drilled, EarlyEnd, FileAnswers, Printed, Refused, SessionPlan, plan_as, plan_by_words, plan_reading, planned, task_as}
+use Rattle.bb_plan.specs.Plan.{Compared, Drilled, EarlyEnd, FileAnswers, Printed, Refused, SessionPlan, plan_as, plan_by_words, plan_reading, planned, task_as}
 use Rattle.bb_plan.specs.declared.plan.PlannedTask.{PlannedTask}
+use Rattle.bb_plan.specs.declared.plan.SlotImage.{SlotImage}
 use Rattle.bb_plan.specs.declared.plan.PlannedTask.TheVariants as tasks
 use Rattle.bb_plan.specs.declared.refusal.Refusal.{Refusal}
 use Rattle.bb_plan.specs.declared.refusal.Refusal.TheVariants as refusals
 use Rattle.bb_plan.proofs.Readings.{read_as_later, read_as_none}
 use Rattle.bb_session.specs.Acting.{no_answers}
-use Rattle.bb_session.specs.Session.{Answers, session_by}
+use Rattle.bb_session.specs.Comparing.{CompareAnswer, GivesCompared, IsSlotCompared, compare_text}
+use Rattle.bb_session.specs.Session.{Answers, done_with, refused_for, session_by}
 use Rattle.bb_session.specs.Work.{Gives, SendsByMemory}
 use Rattle.bb_session.specs.declared.report.Report.{Report}
 use Rattle.bb_tool.specs.Drilling.{IsDrilled}
@@ -23,7 +25,7 @@ use Rattle.bb_tool.proofs.session.session.Goals as goal
 
 -- where nothing was asked of the device
 abbrev early_answers : FileAnswers → Option DrillCounts → Answers
-early_answers files drill = record { files = files; load = Ok None; work = no_answers; drill = drill }
+early_answers files drill = record { files = files; load = Ok None; work = no_answers; drill = drill; compared = None }
 
 module _ (words : List (List ℕ)) (folder folder' : Folder) (before after : Device) where
   -- what was answered to the plan of these words
@@ -46,15 +48,34 @@ module _ (words : List (List ℕ)) (folder folder' : Folder) (before after : Dev
     gives = subst (λ (p : Result SessionPlan EarlyEnd). Gives (session_by p answers) given) (sym is) gives;
   })
 
+  -- a comparison gave what it found, unless memory was refused for the text
+  compared_by : (place : SlotImage) (files : FileAnswers) → plan_by_words words before.geometry files ≡ Err (Compared place) →
+      AreRead (plan_reading words before.geometry) folder folder' files → (answer : CompareAnswer) → IsSlotCompared place before after answer →
+      (given : Result Report Refusal) → GivesCompared answer given → IsSessionAnswer words folder folder' before after given
+  compared_by place files is filed None compared given gives =
+      given_by (record { files = files; load = Ok None; work = no_answers; drill = None; compared = None }) (Err (Compared place)) is filed compared
+      refl given (subst (Gives (refused_for refusals.ReadFault)) (sym gives) (refl, refl))
+  compared_by place files is filed (Some found) compared given (inl done) =
+      given_by (record { files = files; load = Ok None; work = no_answers; drill = None; compared = Some found }) (Err (Compared place)) is filed
+      compared refl given (subst (Gives (done_with (compare_text found))) (sym done) (refl, refl))
+  compared_by place files is filed (Some found) compared given (inr memory) =
+      let answers : Answers = record { files = files; load = Ok None; work = no_answers; drill = None; compared = Some found } in
+      inr (inl (record {
+        answers = answers;
+        answered = answered_by answers (Err (Compared place)) is filed compared refl;
+        whole = subst (λ (p : Result SessionPlan EarlyEnd). SendsByMemory (session_by p answers).refusal) (sym is) tt;
+        is = memory;
+      }))
+
   -- by its task, which was done, unless memory was refused
   pub planned_done : (task : PlannedTask) → IsReadAs (plan_reading words before.geometry) task_as folder folder' (Ok task) →
       (given : Result Report Refusal) → IsTaskDone (task_as task) before after given → IsSessionAnswer words folder folder' before after given
   planned_done task (inr (memory, short)) given done = absurd cc
   planned_done (tasks.OnCopies plan) (inl read) given (inl done) =
-      given_by (record { files = read.answers; load = done.load; work = done.answers; drill = None }) (Ok (plan_as plan)) (ap planned read.gives)
+      given_by (record { files = read.answers; load = done.load; work = done.answers; drill = None; compared = None }) (Ok (plan_as plan)) (ap planned read.gives)
       read.are done.work refl given done.gives
   planned_done (tasks.OnCopies plan) (inl read) given (inr (inl text)) =
-      let answers : Answers = record { files = read.answers; load = text.load; work = text.answers; drill = None } in
+      let answers : Answers = record { files = read.answers; load = text.load; work = text.answers; drill = None; compared = None } in
       inr (inl (record {
         answers = answers;
         answered = answered_by answers (Ok (plan_as plan)) (ap planned read.gives) read.are text.work refl;
@@ -72,6 +93,9 @@ module _ (words : List (List ℕ)) (folder folder' : Folder) (before after : Dev
       (ap (λ (r : Report). r.text) (sym made.is), ap (λ (r : Report). r.refusal) (sym made.is))
   planned_done (tasks.Drills numbers) (inl read) (Err refusal) done =
       inr (inr (record { is = ap (λ (r : Refusal). Err r) done.0.1; unasked = done.1 }))
+  planned_done (tasks.Compares place) (inl read) given (inl done) =
+      compared_by place read.answers (ap planned read.gives) read.are done.answer done.compared given done.gives
+  planned_done (tasks.Compares place) (inl read) given (inr memory) = inr (inr (record { is = memory.0; unasked = memory.1 }))
 
 -- nothing was asked of the device, since the plan was refused
 pub planned_refused : (words : List (List ℕ)) (folder folder' : Folder) (device : Device) (refusal : Refusal) →

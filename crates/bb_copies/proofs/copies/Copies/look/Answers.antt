@@ -1,6 +1,6 @@
-use Rattle.std.proofs.Common.{List, Ok, Err, ap, refl, sym, subst}
+use Rattle.std.proofs.Common.{List, Ok, ap, refl, sym, subst}
 use Rattle.bb_copies.specs.Buckets.{kinds_of}
-use Rattle.bb_copies.specs.Loading.{IsLook}
+use Rattle.bb_copies.specs.Loading.{IsLook, looked_in}
 use Rattle.bb_copies.specs.Placing.{AllPlaced}
 use Rattle.bb_copies.specs.Store.{Store}
 use Rattle.bb_copies.proofs.copies.Copies.look.Goals as goal
@@ -17,7 +17,7 @@ returns-in_default-clause-look g c = record {
 pub returns-clause-look : goal.returns-clause-look
 returns-clause-look g c =
     let k = c.in-Ok.ensures in
-    subst (λ (store : Store _ _). IsLook (g.M.Format.form store.format) (kinds_of g.B.Bucket.holding store.buckets) c.find_first-looked.new.area (g.F.Flash.device c.args.flash.now) (g.F.Flash.device c.find_first-looked.new.flash) (Ok c.in-Ok.passes))
+    subst (λ (store : Store _ _). IsLook (g.M.Format.form store.format) (kinds_of g.B.Bucket.holding store.buckets) (g.F.Flash.device c.args.flash.now) (g.F.Flash.device c.find_first-looked.new.flash) (Ok (looked_in c.find_first-looked.new.area c.in-Ok.found)))
     c.self.view_is (record { gives = k.gives; fails = tt; quiet = k.quiet; faults = k.faults; read_faults = k.read_faults })
 
 pub returns-clause-placed : goal.returns-clause-placed

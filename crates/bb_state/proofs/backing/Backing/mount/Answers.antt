@@ -1,11 +1,12 @@
-use Rattle.std.proofs.Common.{◌≡◌, ℕ, List, Option, arith, ap, subst, sym, ◌∙◌, length}
+use Rattle.std.proofs.Common.{◌≡◌, ◌≤◌, ℕ, List, Option, arith, ap, subst, sym, ◌∙◌, length}
 use Rattle.bb_base.specs.Form.{Form}
-use Rattle.bb_copies.specs.Buckets.{AllAgree, HaveRoom, kinds_of}
+use Rattle.bb_copies.specs.Buckets.{AllAgree, HaveRoom, TakeEachOther, kinds_of}
 use Rattle.bb_layout.specs.Layout.{fields_of}
 use Rattle.bb_state.specs.Keyed.{Keyed}
-use Rattle.bb_state.specs.Kinds.{any_form, any_holding, format_of, key_of_format, laid_buckets, laid_form, longest}
+use Rattle.bb_state.specs.Kinds.{any_form, any_holding, format_of, key_of_format, laid_buckets, laid_form}
 use Rattle.bb_state.specs.declared.any_bucket.AnyBucket.{AnyBucket}
-use Rattle.bb_state.proofs.Mounting.{all_agree, all_serve, buckets_len, have_room, key_is, laid_are}
+use Rattle.bb_state.specs.declared.any_format.AnyFormat.{AnyFormat}
+use Rattle.bb_state.proofs.Mounting.{all_agree, all_serve, area_most, buckets_len, have_room, key_is, laid_are, take_each_other}
 use Rattle.bb_state.proofs.backing.Backing.mount.Goals as goal
 
 pub mount-requires-clause-many : goal.mount-requires-clause-many
@@ -36,8 +37,25 @@ mount-requires-clause-room c =
     c.in_ok-format.ensures c.longest_of-most.ensures c.in_ok-buckets.ensures in
     let kinds = ap (kinds_of any_holding) laid in
     let form = ap any_form c.in_ok-format.ensures in
-    subst (λ (form : Form). HaveRoom (longest form) (kinds_of any_holding c.in_ok-buckets.buckets)) (sym form)
-    (subst (HaveRoom (longest (laid_form keyed))) (sym kinds) (have_room keyed c.args.layout.facts))
+    subst (λ (form : Form). HaveRoom (form.length_of c.args.layout.area_len) (kinds_of any_holding c.in_ok-buckets.buckets)) (sym form)
+    (subst (HaveRoom ((laid_form keyed).length_of c.args.layout.area_len)) (sym kinds) (have_room keyed c.args.layout.facts))
+
+pub mount-requires-clause-exchange : goal.mount-requires-clause-exchange
+mount-requires-clause-exchange c =
+    let keyed : Keyed = record { layout = fields_of c.args.layout; key = c.args.key } in
+    let laid =
+    laid_are keyed c.in_ok-format.format c.longest_of-most.result c.in_ok-buckets.buckets c.requires c.args.layout.facts
+    c.in_ok-format.ensures c.longest_of-most.ensures c.in_ok-buckets.ensures in
+    let kinds = ap (kinds_of any_holding) laid in
+    let form = ap any_form c.in_ok-format.ensures in
+    subst (λ (form : Form). TakeEachOther form (kinds_of any_holding c.in_ok-buckets.buckets)) (sym form)
+    (subst (TakeEachOther (laid_form keyed)) (sym kinds) (take_each_other keyed c.args.layout.facts))
+
+pub mount-requires-clause-most : goal.mount-requires-clause-most
+mount-requires-clause-most c =
+    let keyed : Keyed = record { layout = fields_of c.args.layout; key = c.args.key } in
+    subst (λ (form : Form). c.args.layout.area_len ≤ form.area_len) (sym (ap any_form c.in_ok-format.ensures))
+    (area_most keyed c.args.layout.facts)
 
 pub invariant_of-result : goal.invariant_of-result
 invariant_of-result c =
@@ -52,6 +70,9 @@ invariant_of-result c =
       kinds = ap (kinds_of any_holding) buckets;
       format_is = format ∙ ap (λ key. format_of (record { layout = fields_of c.args.layout; key = key })) (sym key);
       serves = all_serve keyed c.args.layout.facts;
+      most_is = c.in_ok-copies.ensures.most;
+      memory_is = grind (arith, c.area_len.ensures, ap (λ (format : AnyFormat). (any_form format).area_len) c.in_ok-copies.ensures.format);
+      inside = omega arith;
       sized = grind arith;
     }
 

@@ -41,3 +41,7 @@ returns-clause-unchanged g c = λ off.
     let was : c.self.inside.copies.sure ≡ false = ap (λ (b : Backed). b.sure) c.self.view_is ∙ off in
     let none : None ≡ Some Unsure = c.in_ok-save.ensures.save.unsure.1 was in
     absurd cc
+
+pub save-requires-clause-sized : goal.save-requires-clause-sized
+save-requires-clause-sized g c =
+    c.requires.sized ∙ sym (c.self.invariant.most_is ∙ ap (λ (b : Backed). b.keyed.layout.area_len) c.self.view_is)

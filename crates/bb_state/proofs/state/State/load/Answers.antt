@@ -9,7 +9,7 @@ use Rattle.bb_state.proofs.state.State.load.Goals as goal
 pub returns-in_err-loaded-clause-load : goal.returns-in_err-loaded-clause-load
 returns-in_err-loaded-clause-load g c =
     let p = err_from_is_err_and c.from_residual.result c.from_residual.ensures.1 in
-    subst (λ r. IsLoad (form_of c.args.self.now) (kinds_of c.args.self.now) c.load.new.self.kept (g.F.Flash.device c.args.flash.now) (g.F.Flash.device c.load.new.flash) r)
+    subst (λ r. IsLoad (form_of c.args.self.now) (kinds_of c.args.self.now) c.load.new.self.stored (g.F.Flash.device c.args.flash.now) (g.F.Flash.device c.load.new.flash) r)
     (sym (p.1 ∙ ap (λ e. Err e) p.2)) c.in_err-loaded.ensures.load
 
 pub returns-clause-load : goal.returns-clause-load
@@ -36,8 +36,8 @@ returns-clause-on g c =
 pub invariant_of-self-2 : goal.invariant_of-self-2
 invariant_of-self-2 g c = grind (arith, common_steps)
 
-pub returns-clause-defaults : goal.returns-clause-defaults
-returns-clause-defaults g c = grind (arith, common_steps)
+pub returns-clause-table : goal.returns-clause-table
+returns-clause-table g c = grind (arith, common_steps)
 
 pub returns-clause-kept : goal.returns-clause-kept
 returns-clause-kept g c = grind (arith, common_steps)

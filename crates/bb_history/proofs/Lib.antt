@@ -1,0 +1,10 @@
+pub mod Backwards
+pub mod Copying
+pub mod Examples
+pub mod Joining
+pub mod LastOnes
+pub mod Passing
+pub mod Regions
+pub mod Singles
+pub mod Texts
+pub mod Walking

@@ -1,0 +1,5 @@
+mod compared;
+mod each_stop;
+mod refused;
+mod rig;
+mod whole;
