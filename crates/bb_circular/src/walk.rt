@@ -17,8 +17,9 @@ use bb_bucket::{Block, read_part};
 use bb_flash::Flash;
 
 /// The entry that ends in the last of a block's first `pages` pages, at least one, as this page's
-/// closing words say: its other pages aren't looked at. It makes one read, into `page`, which has
-/// the page's size and then holds that page, where it ends an entry.
+/// closing words say: its other pages aren't looked at. There is none exactly where the page is
+/// Lost or its closing words end no entry. It makes one read, into `page`, which has the page's
+/// size and then holds that page, where it ends an entry.
 pub fn entry_before<F: Flash>(
     flash: &mut F,
     block: Block,
