@@ -1,14 +1,15 @@
 -- The newest entry of a block, as a look finds it, is the last of its history.
-use Rattle.std.proofs.Common.{◌≡◌, ℕ, zero, suc, ◌+◌, ◌-◌, ◌/◌, ◌≤◌, List, [], ◌∷◌, ◌++◌, filter_map, map, Option, Some, None, option_map, option_to_list, refl, sym, ap, subst, ◌∙◌, arith}
-use Rattle.std.specs.List.{cons_option}
+use Rattle.std.proofs.Common.{◌≡◌, ℕ, zero, suc, ◌+◌, ◌-◌, ◌/◌, ◌≤◌, List, [], ◌∷◌, ◌++◌, filter_map, map, slice_get, Option, Some, None, option_map, option_to_list, refl, sym, ap, subst, ◌∙◌, arith}
+use Rattle.std.specs.List.{cons_option, range_with_len}
 use Rattle.std.specs.Option.{option_and_then}
 use Rattle.std.proofs.lemmas.List.{map-append}
 use Rattle.std.proofs.lemmas.List.Elements.{filter_map-append}
-use Rattle.std.proofs.lemmas.Option.{none-some}
+use Rattle.std.proofs.lemmas.Option.{none-some, option_and_then_some}
+use Rattle.std.proofs.lemmas.Simd.{map-map}
 use Rattle.bb_base.specs.Form.{Form}
 use Rattle.bb_bucket.specs.declared.block.Block.{Block}
 use Rattle.bb_bucket.specs.BlockLaws.{block_of}
-use Rattle.bb_bucket.specs.Kind.{part_of}
+use Rattle.bb_bucket.specs.Kind.{BucketKind, part_of}
 use Rattle.bb_circular.specs.declared.kept.Entry.{Entry}
 use Rattle.bb_circular.specs.Circular.{circular_candidate, newest_of, readable, record_of}
 use Rattle.bb_circular.specs.Pages.{page_at, written_pages}
@@ -20,12 +21,18 @@ use Rattle.bb_flash.specs.Image.{Image, IsImageOf}
 use Rattle.bb_flash.specs.declared.geometry.Geometry.{Geometry}
 use Rattle.bb_flash.specs.declared.region.Region.{Region}
 use Rattle.bb_layout.specs.Convert.{convert}
+use Rattle.bb_layout.specs.Copies.{region_of}
+use Rattle.bb_layout.specs.Kept.{IsLaid}
 use Rattle.bb_layout.specs.Layout.{Laid}
 use Rattle.bb_layout.specs.declared.storage.Storage.{Storage}
 use Rattle.bb_layout.specs.declared.storage.Storage.TheVariants as storages
+use Rattle.bb_state.specs.Keyed.{Keyed}
+use Rattle.bb_state.specs.Kinds.{any_holding, bucket_at, laid_buckets, laid_form, laid_passings, laid_regions, longest_len}
+use Rattle.bb_state.specs.declared.any_bucket.AnyBucket.{AnyBucket}
 use Rattle.bb_history.specs.Entries.{entry_area, entries_within, held_entries, entry_at, log_areas}
 use Rattle.bb_history.specs.History.{IsRegionOf, kind_in, region_areas}
-use Rattle.bb_history.specs.Newest.{HasAsLast, NewestIsLast}
+use Rattle.bb_history.specs.Newest.{EndsWith, HasAsLast, NewestIsLast}
+use Rattle.bb_history.proofs.Regions.{made_at, made_there, regions_are}
 use Rattle.bb_history.proofs.Walking.{entries_less, entries_more, entry_ends, entry_pages}
 
 module _ (page size : ℕ) (block : Image) (paged : IsPaged page size block) where
@@ -119,7 +126,55 @@ converted_ends layout areas area last = record {
   is = ap (map (convert layout)) last.is ∙ map-append (convert layout) last.earlier (area ∷ []);
 }
 
+-- ---- of a layout's copies
+
+-- a copy passes what its region does: the length of records that are written to it doesn't count
+passing_there : (storage : Storage) (geometry : Geometry) (partition : Region) (len copy : ℕ) (form : Form) (image : Image) →
+    passing_of form geometry.page (any_holding (bucket_at geometry storage partition len copy)).kind image
+    ≡ passing_of form geometry.page (kind_in storage geometry.page (region_of geometry storage partition copy)) image
+unfolding any_holding
+passing_there (storages.Stride stride) geometry partition len copy form image = refl
+passing_there storages.OneBlock geometry partition len copy form image = refl
+passing_there storages.Circular geometry partition len copy form image = refl
+
+module _ (keyed : Keyed) (image : Image) where
+  abbrev Lay : Laid
+  Lay = keyed.layout
+
+  abbrev bucket_of : ℕ → AnyBucket
+  bucket_of = bucket_at Lay.geometry Lay.storage Lay.region (longest_len Lay)
+
+  abbrev place_of : ℕ → Region
+  place_of = region_of Lay.geometry Lay.storage Lay.region
+
+  abbrev passes_as : BucketKind → Option (List ℕ)
+  passes_as kind = passing_of (laid_form keyed) Lay.geometry.page kind image
+
+  abbrev passed_of : ℕ → Option (List ℕ)
+  passed_of copy = passes_as (any_holding (bucket_of copy)).kind
+
+  passings_are : laid_passings keyed image ≡ map passed_of (range_with_len 0 Lay.copies)
+  passings_are =
+      map-map passes_as (λ (b : AnyBucket). (any_holding b).kind) (laid_buckets Lay)
+      ∙ map-map (λ (b : AnyBucket). passes_as (any_holding b).kind) bucket_of (range_with_len 0 Lay.copies)
+
+  module _ (copy : ℕ) (area : List ℕ) (facts : IsLaid Lay) (whole : IsImageOf Lay.geometry image) where
+    copy_ends : slice_get (laid_passings keyed image) copy ≡ Some (Some area) →
+        EndsWith keyed image copy (convert Lay area)
+    copy_ends is =
+        let at = made_at passed_of Lay.copies copy (Some area) (subst (λ ps. slice_get ps copy ≡ Some (Some area)) passings_are is) in
+        let region = place_of copy in
+        let there : slice_get (laid_regions Lay) copy ≡ Some region = made_there place_of Lay.copies copy at.0 in
+        let passes = sym (passing_there Lay.storage Lay.geometry Lay.region (longest_len Lay) copy (laid_form keyed) image) ∙ at.1 in
+        record {
+          region = region;
+          region_is = there;
+          last =
+              converted_ends Lay (region_areas (laid_form keyed) Lay.storage Lay.geometry.page region image) area
+              (region_ends (laid_form keyed) Lay.geometry Lay.storage region image area (regions_are Lay facts copy region there) whole passes);
+        }
+
 pub newest_last : NewestIsLast
-newest_last layout form geometry region image area here whole passes =
-    converted_ends layout (region_areas form layout.storage geometry.page region image) area
-    (region_ends form geometry layout.storage region image area here whole passes)
+newest_last keyed image copy area facts whole is =
+    option_and_then_some (λ (passed : Option (List ℕ)). passed) (slice_get (laid_passings keyed image) copy) area is
+    (λ passed there here. copy_ends keyed image copy area facts whole (there ∙ ap Some here))

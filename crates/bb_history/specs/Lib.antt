@@ -5,6 +5,7 @@ pub use Rattle.bb_circular.specs.Circular
 pub use Rattle.bb_circular.specs.Entries as CircularEntries
 pub use Rattle.bb_copies.specs.Passing
 pub use Rattle.bb_layout.specs.Convert
+pub use Rattle.bb_layout.specs.Kept
 pub use Rattle.bb_state.specs.Kinds
 pub use Rattle.bb_state.specs.Lines as StateLines
 pub mod Entries

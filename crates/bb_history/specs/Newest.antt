@@ -1,25 +1,33 @@
--- What a history has to do with what a copy passes.
-use Rattle.std.specs.Prelude.{◌≡◌, ℕ, List, [], ◌∷◌, ◌++◌, Some}
-use Rattle.bb_base.specs.Form.{Form}
-use Rattle.bb_copies.specs.Passing.{passing_of}
+-- What a history has to do with what the copies of a layout pass.
+use Rattle.std.specs.Prelude.{◌≡◌, ℕ, List, [], ◌∷◌, ◌++◌, Some, slice_get}
+use Rattle.bb_copies.specs.Passing.{passes_at}
 use Rattle.bb_flash.specs.Image.{Image, IsImageOf}
-use Rattle.bb_flash.specs.declared.geometry.Geometry.{Geometry}
 use Rattle.bb_flash.specs.declared.region.Region.{Region}
 use Rattle.bb_layout.specs.Convert.{convert}
-use Rattle.bb_layout.specs.Layout.{Laid}
-use Rattle.bb_history.specs.History.{IsRegionOf, history_of, kind_in}
+use Rattle.bb_layout.specs.Kept.{IsLaid}
+use Rattle.bb_state.specs.Keyed.{Keyed}
+use Rattle.bb_state.specs.Kinds.{laid_form, laid_passings, laid_regions}
+use Rattle.bb_history.specs.History.{history_of}
 
 -- a list ends with an item
 pub record HasAsLast (areas : List (List ℕ)) (area : List ℕ) : Type 0 where
   pub earlier : List (List ℕ)
   pub is : areas ≡ earlier ++ area ∷ []
 
--- where a copy in a region passes an area, the region's history ends with that area, as the layout
+-- the copy of that number has a region, and the history of this region ends with an area
+pub record EndsWith (keyed : Keyed) (image : Image) (copy : ℕ) (area : List ℕ) : Type 0 where
+  pub region : Region
+  pub region_is : slice_get (laid_regions keyed.layout) copy ≡ Some region
+  pub last :
+      HasAsLast
+      (history_of keyed.layout (laid_form keyed) keyed.layout.geometry.page region image)
+      area
+
+-- where a copy of a layout passes an area, the copy's history ends with that area, as the layout
 -- reads it
 abbrev pub NewestIsLast : Type 0
 NewestIsLast =
-    (layout : Laid) (form : Form) (geometry : Geometry) (region : Region) (image : Image)
-    (area : List ℕ) →
-    IsRegionOf geometry layout.storage region → IsImageOf geometry image →
-    passing_of form geometry.page (kind_in layout.storage geometry.page region) image ≡ Some area →
-    HasAsLast (history_of layout form geometry.page region image) (convert layout area)
+    (keyed : Keyed) (image : Image) (copy : ℕ) (area : List ℕ) →
+    IsLaid keyed.layout → IsImageOf keyed.layout.geometry image →
+    passes_at (laid_passings keyed image) copy ≡ Some area →
+    EndsWith keyed image copy (convert keyed.layout area)
