@@ -15,7 +15,7 @@ use Rattle.bb_shell.specs.Sequence.{AddsBy, AddsLast, started_last}
 use Rattle.bb_shell.specs.declared.outcome.Outcome.{Outcome}
 use Rattle.bb_shell.specs.declared.outcome.Outcome.TheVariants as outcomes
 use Rattle.bb_plan.specs.Plan.{Compared, Drilled, EarlyEnd, Printed, Refused, SessionPlan}
-use Rattle.bb_layout.proofs.Converting.{convert_length}
+use Rattle.bb_layout.proofs.Converting.{convert_length, convert_same}
 use Rattle.bb_layout.specs.Convert.{convert}
 use Rattle.bb_layout.specs.Layout.{Laid}
 use Rattle.bb_shell.specs.Stages.{first_area}
@@ -39,7 +39,7 @@ use Rattle.bb_tool.specs.Calls.{IsSession, MayAnswer, SendsText, geometry_of, se
 use Rattle.bb_tool.specs.Ran.{Ran}
 use Rattle.bb_tool.specs.Sending.{sent_of}
 use Rattle.bb_tool.specs.SessionAnswer.{IsEnded, IsFollowed}
-use Rattle.bb_tool.specs.Starting.{BootsInTurn, CountsFailedStarts, IsBoundWork, IsTurnOf, KnowsStartFaults, NamesTheTarget, RunsRounds, StartsAtMostOne, StartsAfterSave, StartsTheLast}
+use Rattle.bb_tool.specs.Starting.{BootReadsOwn, BootsInTurn, CountsFailedStarts, IsBoundWork, IsTurnOf, KnowsStartFaults, NamesTheTarget, RunsRounds, StartsAtMostOne, StartsAfterSave, StartsTheLast}
 use Rattle.bb_tool.proofs.Copying.{followed_is, work_of}
 use Rattle.bb_tool.proofs.Endings.{PlanEnd, by_answers, own_answer}
 use Rattle.bb_tool.proofs.Told.{some_refusal, tells}
@@ -198,11 +198,19 @@ bound_work (Boot targets cause plans) keyed sized = sized.binding
 bound_work (Run script targets cause plans) keyed sized = sized.binding
 bound_work _ keyed sized = tt
 
+own_work : (work : Work) (keyed : Keyed) → IsSizedWork work keyed.layout →
+    BootReadsOwn keyed.layout work
+own_work (Boot targets cause plans) keyed sized =
+    λ table e.
+    convert_same keyed.layout.area_len keyed.layout.vars table sized.layout_is.vars (e ∙ sized.bound)
+own_work _ keyed sized = tt
+
 pub boots_of : (ran : Ran) → BootsInTurn ran
 boots_of ran answers plan answered is =
     let sized = planned_sized ran.words (geometry_of ran) answers.files plan is in
     record {
       binding = bound_work plan.work plan.keyed sized;
+      own = own_work plan.work plan.keyed sized;
       turns =
           work_in_turn plan.keyed plan.work ran.before.device ran.after.device answers.load answers.work sized
           (work_of ran answers plan answered is);

@@ -11,7 +11,7 @@ use Rattle.bb_state.specs.Shows.{EachShowsOrNothing}
 use Rattle.bb_flash.specs.Device.{content, starts}
 use Rattle.bb_flash.specs.declared.plan.Plan.{Plan as StartPlan}
 use Rattle.bb_shell.specs.Boot.{last_round, plan_at, table_after}
-use Rattle.bb_shell.specs.Counting.{IsBootTurn}
+use Rattle.bb_shell.specs.Counting.{IsBootTurn, ReadsOwn}
 use Rattle.bb_shell.specs.Ends.{RaisedBy, StartsOnce, failed_starts}
 use Rattle.bb_shell.specs.Sequence.{AddsLast, started_last}
 use Rattle.bb_session.specs.Acting.{AreRoundsOf, acts_of, start_plans_of}
@@ -63,10 +63,16 @@ IsBoundWork (Boot targets cause plans) = IsBinding targets
 IsBoundWork (Run script targets cause plans) = IsBinding targets
 IsBoundWork _ = ⊤
 
--- so are the targets of a session, and so is its turn, at each content that its copies stood for at
--- entry
+-- and a table of their area's length is read as it is stored, as that law takes it too
+abbrev pub BootReadsOwn : Laid → Work → Type 0
+BootReadsOwn layout (Boot targets cause plans) = ReadsOwn targets (convert layout)
+BootReadsOwn layout _ = ⊤
+
+-- so are the targets of a session and its tables, and so is its turn, at each content that its
+-- copies stood for at entry
 pub record BootsByPlan (ran : Ran) (plan : SessionPlan) (answers : Answers) : Type 0 where
   pub binding : IsBoundWork plan.work
+  pub own : BootReadsOwn plan.keyed.layout plan.work
   pub turns :
       EachStanding plan.keyed ran.before.device ran.after.device
       (λ first last before.
