@@ -30,7 +30,7 @@ use Rattle.bb_state.specs.declared.state.State.{State}
 use Rattle.bb_install.proofs.Beside.{beside_same}
 use Rattle.bb_install.proofs.Places.{slot_lies}
 use Rattle.bb_install.specs.Beside.{IsBesideCopies}
-use Rattle.bb_install.specs.Steps.{IsInstallRun, IsSaveStep, IsImageWritten, IsSlotStep, install_end_of, ended, fault_result, stuck_result}
+use Rattle.bb_install.specs.Steps.{IsInstallRun, IsSaveStep, IsImageWritten, IsSlotStep, IsStateLeft, install_end_of, is_sure_after, ended, fault_result, stuck_result}
 use Rattle.bb_install.specs.declared.install_end.InstallEnd.{InstallEnd}
 use Rattle.bb_install.specs.declared.install_end.InstallEnd.TheVariants as ends
 
@@ -172,23 +172,53 @@ module _ (targets : Binding) (target : ℕ) (slot : Region) (image : List ℕ) (
       (subst (λ (t : List ℕ). IsSaveStep (keyed_of saved) (used_of saved) now t (enable_of targets t target) from to given) (same ∙ table_is)
       (subst (λ (t : List ℕ). IsSaveStep (keyed_of saved) (used_of saved) now t (enable_of targets saved.table target) from to given) kept step))
 
+  -- and so for what either of them left of the state
+  first_left : {new : State} {to : Device} {end : InstallEnd} → IsStateLeft (keyed_of disabled) disabled.table new to end →
+      IsStateLeft (keyed_of old) First new to end
+  first_left left = record {
+    keyed = left.keyed ∙ ap (λ (b : Backed). b.keyed) backing_is;
+    table = left.table ∙ table_is;
+    on = left.on;
+    sure = left.sure;
+    kept = left.kept;
+  }
+
+  pub second_left : (saved : State) {new : State} {to : Device} {end : InstallEnd} →
+      keyed_of saved ≡ keyed_of disabled → saved.table ≡ disabled.table →
+      IsStateLeft (keyed_of saved) (enable_of targets saved.table target) new to end →
+      IsStateLeft (keyed_of old) (enable_of targets First target) new to end
+  second_left saved keyed same left = record {
+    keyed = left.keyed ∙ keyed ∙ ap (λ (b : Backed). b.keyed) backing_is;
+    table = left.table ∙ ap (λ (t : List ℕ). enable_of targets t target) (same ∙ table_is);
+    on = left.on;
+    sure = left.sure;
+    kept = left.kept;
+  }
+
   -- no other target qualifies
   pub ends_barred : (from : Device) (end : InstallEnd) → is_none (best_of targets disabled.table) ≡ true → end ≡ ends.LastTarget →
-      (new : State) → IsInstallRun targets target slot image old new from from end
-  ends_barred from end none is new =
-      inl (record { none = ap (λ (t : List ℕ). is_none (best_of targets t)) (sym table_is) ∙ none; is = is; untouched = refl })
+      IsInstallRun targets target slot image old disabled from from end
+  ends_barred from end none is =
+      inl (record {
+        none = ap (λ (t : List ℕ). is_none (best_of targets t)) (sym table_is) ∙ none;
+        is = is;
+        untouched = refl;
+        table = table_is;
+        backing = backing_is;
+      })
 
   module _ (other : is_none (best_of targets disabled.table) ≡ false) where
-    left : is_none (best_of targets First) ≡ false
-    left = ap (λ (t : List ℕ). is_none (best_of targets t)) (sym table_is) ∙ other
+    others : is_none (best_of targets First) ≡ false
+    others = ap (λ (t : List ℕ). is_none (best_of targets t)) (sym table_is) ∙ other
 
     -- the first save was refused
     pub ends_early : (new : State) (from to : Device) (end : InstallEnd) →
         IsSaveRefused (keyed_of old) (used_of old) (used_of new) (last_table_of old) First from to end →
+        IsStateLeft (keyed_of disabled) disabled.table new to end →
         IsInstallRun targets target slot image old new from to end
-    ends_early new from to end save =
+    ends_early new from to end save left =
         inr (record {
-          other = left;
+          other = others;
           early = Some save.fault;
           stuck = None;
           late = None;
@@ -199,16 +229,18 @@ module _ (targets : Binding) (target : ℕ) (slot : Region) (image : List ℕ) (
           saved = save.run;
           wrote = refl;
           again = (refl, refl);
+          leaves = first_left left;
         })
 
     -- it was made, and then a call on the slot failed
     module _ (copy : Option ℕ) (from before : Device)
         (save : IsSaveRun (keyed_of old) (Some (last_table_of old)) (used_of old) copy First None from before) where
       pub ends_stuck : (new : State) (to : Device) (end : InstallEnd) → used_of new ≡ copy → IsSlotStuck slot image before to end →
+          IsStateLeft (keyed_of disabled) disabled.table new before ends.Done → IsOn new to →
           IsInstallRun targets target slot image old new from to end
-      ends_stuck new to end same slot_run =
+      ends_stuck new to end same slot_run saved on =
           inr (record {
-            other = left;
+            other = others;
             early = None;
             stuck = Some slot_run.at;
             late = None;
@@ -219,13 +251,23 @@ module _ (targets : Binding) (target : ℕ) (slot : Region) (image : List ℕ) (
             saved = save;
             wrote = slot_run.run;
             again = (same, refl);
+            leaves =
+                let left = first_left saved in
+                record {
+                  keyed = left.keyed;
+                  table = left.table;
+                  on = on;
+                  sure = left.sure ∙ sym (ap is_sure_after slot_run.is);
+                  kept = left.kept;
+                };
           })
 
       -- or the second save was tried
       pub ends_late : (new : State) (behind to : Device) (given : Result (Unit {0}) InstallEnd) → IsImageWritten slot image None before behind →
           IsSaveStep (keyed_of old) copy (used_of new) First (enable_of targets First target) behind to given →
+          IsStateLeft (keyed_of old) (enable_of targets First target) new to (ended given) →
           IsInstallRun targets target slot image old new from to (ended given)
-      ends_late new behind to given slot_run step = by step.refusal step.run step.gives
+      ends_late new behind to given slot_run step left = by step.refusal step.run step.gives
         where
           ends_by : (late : Option CopyFault) → given ≡ fault_result late → ended given ≡ install_end_of None None late
           ends_by None gives = ap ended gives
@@ -236,7 +278,7 @@ module _ (targets : Binding) (target : ℕ) (slot : Region) (image : List ℕ) (
               given ≡ fault_result late → IsInstallRun targets target slot image old new from to (ended given)
           by late run gives =
               inr (record {
-                other = left;
+                other = others;
                 early = None;
                 stuck = None;
                 late = late;
@@ -247,4 +289,5 @@ module _ (targets : Binding) (target : ℕ) (slot : Region) (image : List ℕ) (
                 saved = save;
                 wrote = slot_run;
                 again = run;
+                leaves = left;
               })

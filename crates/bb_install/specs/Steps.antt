@@ -1,6 +1,6 @@
 -- An install: a target is disabled and that is saved, its slot is written, the target is enabled
 -- and that is saved. Each step comes after the one before it answered Ok.
-use Rattle.std.specs.Prelude.{◌≡◌, ◌⊎◌, ℕ, true, false, List, Option, Some, None, Result, Ok, Err, is_none}
+use Rattle.std.specs.Prelude.{◌≡◌, ◌⊎◌, ℕ, Bool, true, false, List, Option, Some, None, Result, Ok, Err, is_none}
 use Rattle.bb_chooser.specs.Binding.{Binding}
 use Rattle.bb_chooser.specs.Counting.{disable_of, enable_of}
 use Rattle.bb_copies.specs.declared.answers.CopyFault.{CopyFault}
@@ -9,7 +9,7 @@ use Rattle.bb_flash.specs.declared.region.Region.{Region}
 use Rattle.bb_shell.specs.Rounds.{best_of}
 use Rattle.bb_shell.specs.Running.{IsSaveRun}
 use Rattle.bb_state.specs.Keyed.{Keyed}
-use Rattle.bb_state.specs.State.{keyed_of, last_table_of, used_of}
+use Rattle.bb_state.specs.State.{IsOn, is_sure, keyed_of, last_table_of, used_of}
 use Rattle.bb_state.specs.declared.state.State.{State}
 use Rattle.bb_install.specs.Slot.{HasPlace}
 use Rattle.bb_install.specs.Writing.{IsInstalled, SlotCalls, StopsAt}
@@ -69,6 +69,26 @@ pub record IsSlotStep (slot : Region) (image : List ℕ) (from to : Device)
   pub run : IsImageWritten slot image stuck from to
   pub gives : given ≡ stuck_result stuck
 
+-- ---- the state that is left
+
+-- what the copies pass isn't known after a save that was refused
+abbrev pub is_sure_after : InstallEnd → Bool
+is_sure_after ends.Done = true
+is_sure_after ends.LastTarget = true
+is_sure_after (ends.SlotFault at) = true
+is_sure_after (ends.Fault fault) = false
+
+-- What is left of a state: it may be used with the device, and has the layout and the key that it
+-- had first, and the table that was set last.
+pub record IsStateLeft (first : Keyed) (last : List ℕ) (new : State) (to : Device) (end : InstallEnd)
+    : Type 0 where
+  pub keyed : keyed_of new ≡ first
+  pub table : new.table ≡ last
+  pub on : IsOn new to
+  -- it is sure exactly where no save was refused, and then that table was loaded or saved last
+  pub sure : is_sure new ≡ is_sure_after end
+  pub kept : is_sure new ≡ true → last_table_of new ≡ new.table
+
 -- ---- all steps
 
 -- How it ends: the first save was refused for this, where it was. Then the call on the slot that
@@ -95,38 +115,50 @@ IsSaveRunAfter None (Some at) keyed kept used now table late from to = (now ≡ 
 IsSaveRunAfter None None keyed kept used now table late from to =
     IsSaveRun keyed (Some kept) used now table late from to
 
--- The steps were made from a table, up to this end. `kept` was loaded or saved last before them;
--- `used` is the copy that is used before them, `now` the one after them.
-pub record AreStepsRun (keyed : Keyed) (targets : Binding) (target : ℕ) (slot : Region)
-    (image table kept : List ℕ) (used now : Option ℕ) (from to : Device) (end : InstallEnd) : Type 0 where
+-- the table that is left by how the steps were answered: the enabled one, once the slot was written
+abbrev pub table_left : Option CopyFault → Option ℕ → List ℕ → List ℕ → List ℕ
+table_left (Some fault) stuck disabled enabled = disabled
+table_left None (Some at) disabled enabled = disabled
+table_left None None disabled enabled = enabled
+
+-- The steps were made from the old state, up to this end, and left the new one.
+pub record AreStepsRun (targets : Binding) (target : ℕ) (slot : Region) (image : List ℕ) (old new : State)
+    (from to : Device) (end : InstallEnd) : Type 0 where
   -- another target qualifies
-  pub other : is_none (best_of targets (disable_of targets table target)) ≡ false
+  pub other : is_none (best_of targets (disable_of targets old.table target)) ≡ false
   pub early : Option CopyFault
   pub stuck : Option ℕ
   pub late : Option CopyFault
   pub ends_so : end ≡ install_end_of early stuck late
-  -- before the calls on the slot, and behind them
+  -- the copy that is used after the first save; the devices before and after the calls on the slot
   pub copy : Option ℕ
   pub before : Device
   pub behind : Device
   pub saved :
-      IsSaveRun keyed (Some kept) used copy (disable_of targets table target) early from before
+      let disabled = disable_of targets old.table target in
+      IsSaveRun (keyed_of old) (Some (last_table_of old)) (used_of old) copy disabled early from before
   pub wrote : IsImageWrittenAfter early slot image stuck before behind
   pub again :
-      let disabled = disable_of targets table target in
-      IsSaveRunAfter early stuck keyed disabled copy now (enable_of targets disabled target) late
-      behind to
+      let disabled = disable_of targets old.table target in
+      let enabled = enable_of targets disabled target in
+      IsSaveRunAfter early stuck (keyed_of old) disabled copy (used_of new) enabled late behind to
+  pub leaves :
+      let disabled = disable_of targets old.table target in
+      let enabled = enable_of targets disabled target in
+      IsStateLeft (keyed_of old) (table_left early stuck disabled enabled) new to end
 
--- no other target qualifies, and nothing was done on the device
-pub record IsLastTarget (targets : Binding) (disabled : List ℕ) (from to : Device) (end : InstallEnd)
-    : Type 0 where
+-- No other target qualifies. Nothing was done on the device, and of the state the table alone
+-- changed: in it the target is disabled.
+pub record IsLastTarget (targets : Binding) (disabled : List ℕ) (old new : State) (from to : Device)
+    (end : InstallEnd) : Type 0 where
   pub none : is_none (best_of targets disabled) ≡ true
   pub is : end ≡ ends.LastTarget
   pub untouched : to ≡ from
+  pub table : new.table ≡ disabled
+  pub backing : new.backing ≡ old.backing
 
 abbrev pub IsInstallRun :
     Binding → ℕ → Region → List ℕ → State → State → Device → Device → InstallEnd → Type 0
 IsInstallRun targets target slot image old new from to end =
-    IsLastTarget targets (disable_of targets old.table target) from to end
-    ⊎ AreStepsRun (keyed_of old) targets target slot image old.table (last_table_of old) (used_of old)
-    (used_of new) from to end
+    IsLastTarget targets (disable_of targets old.table target) old new from to end
+    ⊎ AreStepsRun targets target slot image old new from to end

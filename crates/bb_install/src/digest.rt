@@ -1,4 +1,4 @@
-ghost use Rattle.std.specs.Prelude.{◌≡◌, ◌↔◌, IsTrue};
+ghost use Rattle.std.specs.Prelude.{◌≡◌};
 ghost use Rattle.sha2.specs.Sha256.{sha256};
 
 use sha2::{Digest, Sha256};
@@ -10,11 +10,4 @@ pub fn digest_of(image: &[u8]) -> [u8; 32]
     let mut hasher = Sha256::new();
     hasher.update(image);
     hasher.finalize()
-}
-
-/// Whether this is SHA-256 of the image.
-pub fn has_digest(image: &[u8], digest: &[u8; 32]) -> bool
-    ensures { IsTrue result ↔ (sha256 image.now ≡ digest.now) }
-{
-    digest_of(image) == *digest
 }

@@ -19,7 +19,7 @@ mod steps;
 mod write;
 
 pub use compare::first_difference;
-pub use digest::{digest_of, has_digest};
+pub use digest::digest_of;
 pub use install_end::InstallEnd;
 pub use slot::slot_of;
 pub use slot_error::SlotError;

@@ -1,8 +1,9 @@
-ghost use Rattle.std.specs.Prelude.{◌≡◌, ◌≤◌, ◌<◌, OnOk, length, true};
+ghost use Rattle.std.specs.Prelude.{◌≡◌, ◌≤◌, ◌<◌, length, true};
 ghost use Rattle.bb_chooser.specs.Counting.{disable_of, enable_of};
 ghost use Rattle.bb_install.specs.Beside.{IsBeside};
 ghost use Rattle.bb_install.specs.Slot.{HasPlace};
-ghost use Rattle.bb_install.specs.Steps.{IsInstallRun, IsOtherLeft, IsSaveStep, IsSlotStep, ended};
+ghost use Rattle.bb_install.specs.Steps.{IsInstallRun, IsOtherLeft, IsSaveStep, IsSlotStep};
+ghost use Rattle.bb_install.specs.Steps.{IsStateLeft, ended};
 ghost use Rattle.bb_shell.specs.Ends.{IsBoundIn, IsReady};
 ghost use Rattle.bb_state.specs.Backed.{HasItsKinds};
 ghost use Rattle.bb_state.specs.State.{IsOn, is_sure, keyed_of, laid_of, last_table_of, used_of};
@@ -14,9 +15,11 @@ use bb_state::State;
 
 /// Installs an image: disables the target and saves that, writes the slot, enables the target and
 /// saves that. Each step comes after the one before it answered Ok. Where no other target qualifies
-/// with this one disabled, nothing is saved. A call on the slot that fails leaves the target
-/// disabled. The state's last load or save answered Ok, the chooser was bound to its layout, and
-/// `page` is as long as the device's page. It takes no memory.
+/// with this one disabled, that is LastTarget: nothing is saved, and the target stays disabled in
+/// the table in memory. A call on the slot that fails leaves the target disabled. A save that is
+/// refused leaves the table in memory as it was to be saved, and the state isn't sure. The state's
+/// last load or save answered Ok, the chooser was bound to its layout, and `page` is as long as the
+/// device's page. It takes no memory.
 pub fn install<F: Flash>(
     state: &mut State,
     chooser: &Chooser,
@@ -85,11 +88,8 @@ fn save<F: Flash>(state: &mut State, flash: &mut F) -> Result<(), InstallEnd>
     requires sure { is_sure state.old ≡ true }
     ensures step { IsSaveStep (keyed_of state.old) (used_of state.old) (used_of state.new)
         (last_table_of state.old) state.old.table (F.device flash.old) (F.device flash.new) result }
-    ensures table { state.new.table ≡ state.old.table }
-    ensures keyed { keyed_of state.new ≡ keyed_of state.old }
-    ensures on { OnOk result (IsOn state.new (F.device flash.new)) }
-    ensures sure { OnOk result (is_sure state.new ≡ true) }
-    ensures kept { OnOk result (last_table_of state.new ≡ state.new.table) }
+    ensures leaves { IsStateLeft (keyed_of state.old) state.old.table state.new
+        (F.device flash.new) (ended result) }
     ensures kinds { HasItsKinds state.new.backing }
 {
     match state.save(flash) {
@@ -128,6 +128,9 @@ fn finish<F: Flash>(
     ensures step { IsSaveStep (keyed_of state.old) (used_of state.old) (used_of state.new)
         (last_table_of state.old) (enable_of chooser.now state.old.table target)
         (F.device flash.old) (F.device flash.new) result }
+    ensures leaves { IsStateLeft (keyed_of state.old)
+        (enable_of chooser.now state.old.table target) state.new
+        (F.device flash.new) (ended result) }
 {
     enable(state, chooser, target);
     save(state, flash)

@@ -1,4 +1,4 @@
-use Rattle.std.proofs.Common.{List, ℕ, subst}
+use Rattle.std.proofs.Common.{◌∙◌, List, ℕ, ap, subst}
 use Rattle.bb_state.specs.Backed.{Backed}
 use Rattle.bb_state.specs.State.{keyed_of, last_table_of, used_of}
 use Rattle.bb_install.specs.Steps.{IsSaveStep}
@@ -16,4 +16,13 @@ returns g c =
           c.enable.ensures.table
           (subst (λ (b : Backed). IsSaveStep b.keyed b.used (used_of c.save.new.state) b.kept enabled.table from to c.save.result)
           c.enable.ensures.backing c.save.ensures.step);
+      leaves =
+          let left = c.save.ensures.leaves in
+          record {
+            keyed = left.keyed ∙ ap (λ (b : Backed). b.keyed) c.enable.ensures.backing;
+            table = left.table ∙ c.enable.ensures.table;
+            on = left.on;
+            sure = left.sure;
+            kept = left.kept;
+          };
     }
