@@ -1,8 +1,9 @@
 # shellcheck shell=bash
-# What run, devices, faults, stops, starts, pairs, memory and tests/bench begin with: `root` is the
-# repository, and the array `program` the command that is tried. That is the proved program, which
-# is built where it is missing, or COMMAND of the words `--program COMMAND`, as a build for a board
-# under an emulator is: `qemu-aarch64-static FILE`. FILE is the last word of COMMAND.
+# What run, devices, faults, stops, starts, installs, pairs, memory and tests/bench begin with:
+# `root` is the repository, and the array `program` the command that is tried. That is the proved
+# program, which is built where it is missing, or COMMAND of the words `--program COMMAND`, as a
+# build for a board under an emulator is: `qemu-aarch64-static FILE`. FILE is the last word of
+# COMMAND.
 root=$(cd "$(dirname "${BASH_SOURCE[0]}")/../.." && pwd) || exit 1
 if [ "${1:-}" = --program ]; then
   read -ra program <<<"${2:-}"

@@ -24,8 +24,9 @@ GEOMETRY
   er:PAGE:BLOCK:SIZE   written in pages and erased in blocks; raw works on none
 
 COMMAND
-  raw MAGIC LEN -g     prints the first area that passes, in hexadecimal, or `none`. MAGIC is
-                       the record's magic, LEN the area's bytes, up to 65535.
+  raw MAGIC LEN -g     prints LEN bytes of the first area that passes, in hexadecimal, with a
+                       zero for each that it lacks, or `none`. MAGIC is the record's magic, LEN
+                       the area's bytes, up to 65535.
   raw MAGIC LEN -s HEX saves an area into all three copies, and prints nothing. HEX is two
                        hexadecimal digits a byte.
   state -i FILE [-n NAME] [-k FILE] [-s VAR=VALUE] [-g VAR] [-d] [--dump-shell]
@@ -71,7 +72,8 @@ COMMAND
      -t TARGET         the name of the target, as the settings have it
      -p LABEL          the slot: the first node of the devicetree that has this label. Its reg
                        is an offset and a size, and it shares no byte with the partition of the
-                       copies.
+                       copies. For an install, that it is TARGET's slot, and not the running
+                       system's, is the caller's word.
      -f IMAGE          the image, up to 1048576 bytes
      --sha256 HEX      64 hexadecimal digits, as sha256sum prints them
   verify -i FILE -p LABEL -f IMAGE [-n NAME]
@@ -81,8 +83,8 @@ COMMAND
                        reads the devicetree as `state` does, and what the copies' regions still
                        hold. Prints for each copy how many areas pass there, and then each
                        area's variables, oldest first. A log may hold many, other storage one.
-                       It changes nothing of the device, and doesn't say that an older area was
-                       ever acknowledged.
+                       It writes no copy, and says of no area that it was acknowledged. A file
+                       that is absent or short is filled up first, but not with --read-only.
   menu --dir DIR       prints a line for each boot entry of the folder DIR: its file's name, a
                        space and its title. Where the title is empty, `linux` stands in its
                        place. The first is the one that starts a target whose setting names the
@@ -111,7 +113,7 @@ STATUS
    7 FileTooLong a file is longer than 1048576 bytes. For a file of a menu's folder the line has
                  the folder.
    8 ReadFault   the device can't be opened or read, or is no device, or a boot's plan has no
-                 place
+                 place. The lines of a history that were read come before it.
    9 WriteFault  a copy can't be written. The line has its number, from 0.
   10 NoTarget    no target has a priority and attempts left. Nothing is saved.
   11 StartFailed no target could be started. The line has the last one, and the line before it
@@ -133,6 +135,6 @@ STATUS
   25 ImageTooLong  the image is longer than the slot. The line has its bytes.
   26 LastTarget  no other target has a priority and attempts left. Nothing is saved. The line
                  has the name of the target.
-  27 SlotFault   the slot can't be written. The line has the place on the device from which on
-                 it couldn't. The target stays disabled.
+  27 SlotFault   the slot can't be written. The line has the byte of the device at which the
+                 failed call began. The target stays disabled.
 ";
