@@ -33,7 +33,8 @@ def device(dice, layout, key):
 
 
 def area(dice, layout):
-    """An area: the defaults, and some other values."""
+    """An area: the defaults, and some other values; where records are raw also one of another
+    length, up to eight bytes more."""
     found = bytearray(layout.defaults())
     for var in layout.vars:
         if var.kind == b'uint32' and dice.once_in(3):
@@ -41,6 +42,9 @@ def area(dice, layout):
             found[var.at:var.at + 4] = struct.pack('<I', value)
         elif dice.once_in(4):
             found[var.at:var.at + var.size] = dice.bytes(var.size)
+    if layout.type == b'raw' and dice.once_in(3):
+        length = min(dice.below(len(found) + 9), 65535)
+        found = (found + dice.bytes(9))[:length]
     return bytes(found)
 
 
