@@ -178,6 +178,29 @@ fn without_its_whole_code_a_record_passes_nothing(rt: HostRuntime) -> Result<(),
     Ok(())
 }
 
+// Whether the record under its key passes as the worked area where records stand in so many bytes.
+fn passes_keyed_within(alloc: Global, room: u32) -> Result<bool, Fail> {
+    let key = Key::from_hex(b"4a656665").ok().ok_or("a key")?;
+    let raw = Raw::within(0x1234_5678, Some(key), room);
+    let mut area = long_area(alloc, &raw)?;
+    Ok(raw.check(&keyed_record(), &mut area) == PASSED && area.starts_with(b"123456789"))
+}
+
+// The record has 16 bytes, the area's 9, and the 32 of its code: 57. From a room of 89 on there is
+// memory for an area of 41, where the code's last byte comes to stand within it.
+#[test]
+fn a_keyed_area_passes_where_its_record_has_room(rt: HostRuntime) -> Result<(), Fail> {
+    for room in 57..91u32 {
+        let passes = passes_keyed_within(rt.alloc(), room)?;
+        assert!(rt; passes, "in a room of {room}");
+    }
+    for room in [0u32, 47, 48, 56] {
+        let passes = passes_keyed_within(rt.alloc(), room)?;
+        assert!(rt; !passes, "in a room of {room}");
+    }
+    Ok(())
+}
+
 // Checks bytes in pieces of so many bytes.
 fn check_by(raw: &Raw, bytes: &[u8], size: usize, area: &mut [u8]) -> Option<Passed>
     requires some { 0 < size }
