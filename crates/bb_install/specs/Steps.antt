@@ -78,15 +78,18 @@ is_sure_after ends.LastTarget = true
 is_sure_after (ends.SlotFault at) = true
 is_sure_after (ends.Fault fault) = false
 
--- What is left of a state: it may be used with the device, and has the layout and the key that it
--- had first, and the table that was set last.
+-- what is left of a state, by how the steps ended
 pub record IsStateLeft (first : Keyed) (last : List ℕ) (new : State) (to : Device) (end : InstallEnd)
     : Type 0 where
+  -- it has the layout and the key that it had first
   pub keyed : keyed_of new ≡ first
+  -- it has the table that was set last
   pub table : new.table ≡ last
+  -- it may be used with the device
   pub on : IsOn new to
-  -- it is sure exactly where no save was refused, and then that table was loaded or saved last
+  -- it is sure exactly where no save was refused
   pub sure : is_sure new ≡ is_sure_after end
+  -- where it is sure, that table is the one that was loaded or saved last
   pub kept : is_sure new ≡ true → last_table_of new ≡ new.table
 
 -- ---- all steps
@@ -122,7 +125,8 @@ table_left None (Some at) disabled enabled = disabled
 table_left None None disabled enabled = enabled
 
 -- The steps were made from the old state, up to this end, and left the new one.
-pub record AreStepsRun (targets : Binding) (target : ℕ) (slot : Region) (image : List ℕ) (old new : State)
+pub record AreStepsRun
+    (targets : Binding) (target : ℕ) (slot : Region) (image : List ℕ) (old new : State)
     (from to : Device) (end : InstallEnd) : Type 0 where
   -- another target qualifies
   pub other : is_none (best_of targets (disable_of targets old.table target)) ≡ false
@@ -142,18 +146,19 @@ pub record AreStepsRun (targets : Binding) (target : ℕ) (slot : Region) (image
       let disabled = disable_of targets old.table target in
       let enabled = enable_of targets disabled target in
       IsSaveRunAfter early stuck (keyed_of old) disabled copy (used_of new) enabled late behind to
+  -- the state afterwards
   pub leaves :
       let disabled = disable_of targets old.table target in
       let enabled = enable_of targets disabled target in
       IsStateLeft (keyed_of old) (table_left early stuck disabled enabled) new to end
 
--- No other target qualifies. Nothing was done on the device, and of the state the table alone
--- changed: in it the target is disabled.
+-- no other target qualifies, and nothing was done on the device
 pub record IsLastTarget (targets : Binding) (disabled : List ℕ) (old new : State) (from to : Device)
     (end : InstallEnd) : Type 0 where
   pub none : is_none (best_of targets disabled) ≡ true
   pub is : end ≡ ends.LastTarget
   pub untouched : to ≡ from
+  -- of the state the table alone changed: in it the target is disabled
   pub table : new.table ≡ disabled
   pub backing : new.backing ≡ old.backing
 
