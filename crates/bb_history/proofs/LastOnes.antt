@@ -31,7 +31,7 @@ use Rattle.bb_state.specs.Kinds.{any_holding, bucket_at, laid_buckets, laid_form
 use Rattle.bb_state.specs.declared.any_bucket.AnyBucket.{AnyBucket}
 use Rattle.bb_history.specs.Entries.{entry_area, entries_within, held_entries, entry_at, log_areas}
 use Rattle.bb_history.specs.History.{IsRegionOf, kind_in, region_areas}
-use Rattle.bb_history.specs.Newest.{EndsWith, HasAsLast, NewestIsLast}
+use Rattle.bb_history.specs.Newest.{HistoryEndsWith, HasAsLast, NewestIsLast}
 use Rattle.bb_history.proofs.Regions.{made_at, made_there, regions_are}
 use Rattle.bb_history.proofs.Walking.{entries_less, entries_more, entry_ends, entry_pages}
 
@@ -160,7 +160,7 @@ module _ (keyed : Keyed) (image : Image) where
 
   module _ (copy : ℕ) (area : List ℕ) (facts : IsLaid Lay) (whole : IsImageOf Lay.geometry image) where
     copy_ends : slice_get (laid_passings keyed image) copy ≡ Some (Some area) →
-        EndsWith keyed image copy (convert Lay area)
+        HistoryEndsWith keyed image copy (convert Lay area)
     copy_ends is =
         let at = made_at passed_of Lay.copies copy (Some area) (subst (λ ps. slice_get ps copy ≡ Some (Some area)) passings_are is) in
         let region = place_of copy in

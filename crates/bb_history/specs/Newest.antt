@@ -15,7 +15,7 @@ pub record HasAsLast (areas : List (List ℕ)) (area : List ℕ) : Type 0 where
   pub is : areas ≡ earlier ++ area ∷ []
 
 -- the copy of that number has a region, and the history of this region ends with an area
-pub record EndsWith (keyed : Keyed) (image : Image) (copy : ℕ) (area : List ℕ) : Type 0 where
+pub record HistoryEndsWith (keyed : Keyed) (image : Image) (copy : ℕ) (area : List ℕ) : Type 0 where
   pub region : Region
   pub region_is : slice_get (laid_regions keyed.layout) copy ≡ Some region
   pub last :
@@ -30,4 +30,4 @@ NewestIsLast =
     (keyed : Keyed) (image : Image) (copy : ℕ) (area : List ℕ) →
     IsLaid keyed.layout → IsImageOf keyed.layout.geometry image →
     passes_at (laid_passings keyed image) copy ≡ Some area →
-    EndsWith keyed image copy (convert keyed.layout area)
+    HistoryEndsWith keyed image copy (convert keyed.layout area)
