@@ -9,7 +9,7 @@ from source import read_tree
 from tree import MAGIC, write_blob
 from values import geometry_of
 
-COMMANDS = [b'state'] * 5 + [b'boot'] * 3 + [b'mark-good'] + [b'shell'] * 3 + [b'history'] * 3
+COMMANDS = [b'state'] * 5 + [b'boot'] * 3 + [b'mark-good'] + [b'shell'] * 3 + [b'history'] * 4
 COMMANDS += [b'install'] * 9 + [b'verify'] * 3
 VALUES = ['0', '1', '2', '3', '7', '10', '255', '256', '0x10', '4294967295', '4294967296', '-1', '',
           'x', '007', ' 1', '99999999999999999999999', 'primary', 'backup', 'spare', 'ab', 'abcd',
