@@ -320,12 +320,18 @@ def judge_copies(wanted, got):
         if without(spared[1:], after) != without(spared[1:], base):
             yield 'a copy was written for nothing'
         return
-    if any(area != wanted.area for area in passing(layout, after, wanted.foreseen.key)):
+    key = wanted.foreseen.key
+    if any(area != wanted.area for area in passing(layout, after, key)):
         yield 'a copy does not pass what was to be saved'
-    image = layout.image(layout.record(wanted.area, wanted.foreseen.key))
+    image = layout.image(layout.record(wanted.area, key))
+    # A load may have written what was stored, which may be longer, before the save.
+    found = [area for area in passing(layout, base, key) if area is not None][:1]
+    stored = [layout.image(layout.record(area, key)) for area in found]
     for copy in range(layout.copies if layout.storage == 'stride' else 0):
         start, end = layout.region(copy)
-        if after[start:end] not in (base[start:end], image + base[start + len(image):end]):
+        before = base[start:end]
+        below = [before] + [old + before[len(old):] for old in stored]
+        if after[start:end] not in [before] + [image + left[len(image):] for left in below]:
             yield f'copy {copy} was changed after its record'
 
 
