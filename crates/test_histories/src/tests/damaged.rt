@@ -1,5 +1,5 @@
 // Histories of logs that were torn, or hold what no one wrote.
-use super::items::Item::{self, Failing, Far, Four, Half, Junk, Long, Odd, One, Two, Zero};
+use super::items::Item::{self, Around, Failing, Far, Four, Half, Junk, Long, Odd, One, Two, Zero};
 use super::{board, says, set_health, shows};
 use bb_flash::Health;
 use bb_tool::Status;
@@ -88,6 +88,21 @@ fn a_lost_page_hides_its_entry_alone(rt: HostRuntime) -> Result<(), Fail> {
 fn a_lost_page_frees_the_closing_words_in_an_area(rt: HostRuntime) -> Result<(), Fail> {
     let mut device = board(rt.alloc(), [&[One, Long], &[], &[]])?;
     set_health(&mut device, 4, Health::Lost)?;
+    says(
+        &rt,
+        rt.alloc(),
+        &mut device,
+        Status::Done,
+        ONE_ALONE.as_bytes(),
+    )
+}
+
+// Pages 0 to 3 are one entry by its closing words, and page 2 is Lost: page 3 goes alone, and the
+// entry in pages 0 and 1 is shown.
+#[test]
+fn a_lost_page_frees_the_entry_that_a_claimed_one_holds(rt: HostRuntime) -> Result<(), Fail> {
+    let mut device = board(rt.alloc(), [&[One, Junk, Around], &[], &[]])?;
+    set_health(&mut device, 2, Health::Lost)?;
     says(
         &rt,
         rt.alloc(),

@@ -1,6 +1,6 @@
 // A read that fails, at each place: the lines so far are sent, and then that of the fault.
 use super::items::Item::{Four, Half, One, Two};
-use super::{board, session};
+use super::{board, says, session};
 use bb_base::MemSink;
 use bb_flash::{Fault, Fill, MemBoard};
 use bb_tool::Status;
@@ -8,46 +8,80 @@ use std::alloc::Global;
 use std::process::Abort;
 use std::test::Fail;
 
-const WHOLE: &[u8] = b"copy 0 entries 2\nentry 1\nn=1\ntext=\nentry 2\nn=2\ntext=\n\
-    copy 1 entries 1\nentry 1\nn=4\ntext=\ncopy 2 entries 0\n";
-
-const LINE: &[u8] = b"fault 8 ReadFault\n";
-
 fn device(alloc: Global) -> Result<MemBoard, Fail> {
     board(alloc, [&[One, Two], &[Half, Four], &[]])
 }
 
-// Of the three copies 28, 29 and 32 blank pages are read, one that is torn, and four, two and none
-// pages of entries on the way back and on the way forth.
-const READS: u64 = 102;
-
-fn is_cut_text(rt: &impl Abort, sent: &[u8]) -> Result<(), Fail> {
-    if sent.len() < LINE.len() {
-        return Err(Fail::from("no line of a fault"));
-    }
-    let (text, line) = sent.split_at(sent.len() - LINE.len());
-    assert_eq!(rt; line, LINE);
-    assert!(rt; WHOLE.starts_with(text));
-    assert!(rt; text.is_empty() || text.ends_with(b"\n"));
-    Ok(())
+// Reads that follow one another, of which `end` is the first that doesn't count, and what is sent
+// where one of them fails.
+#[derive(Clone, Copy)]
+struct Row {
+    from: u32,
+    end: u32,
+    sends: &'static str,
 }
 
-fn fails_at(rt: &impl Abort, alloc: Global, call: u32) -> Result<(), Fail> {
+// A copy is read on the way back before its line is there: of copy 0 are 28 blank pages and four of
+// entries, of copy 1 29, two and one that is torn, and of copy 2 32 blank ones. After a line of a
+// copy the two pages of each entry are read on the way forth before its lines are there.
+fn rows() -> [Row; 6] {
+    [
+        row(0, 32, "fault 8 ReadFault\n"),
+        row(32, 34, "copy 0 entries 2\nfault 8 ReadFault\n"),
+        row(
+            34,
+            36,
+            "copy 0 entries 2\nentry 1\nn=1\ntext=\nfault 8 ReadFault\n",
+        ),
+        row(
+            36,
+            68,
+            "copy 0 entries 2\nentry 1\nn=1\ntext=\nentry 2\nn=2\ntext=\nfault 8 ReadFault\n",
+        ),
+        row(
+            68,
+            70,
+            "copy 0 entries 2\nentry 1\nn=1\ntext=\nentry 2\nn=2\ntext=\n\
+            copy 1 entries 1\nfault 8 ReadFault\n",
+        ),
+        row(
+            70,
+            102,
+            "copy 0 entries 2\nentry 1\nn=1\ntext=\nentry 2\nn=2\ntext=\n\
+            copy 1 entries 1\nentry 1\nn=4\ntext=\nfault 8 ReadFault\n",
+        ),
+    ]
+}
+
+fn row(from: u32, end: u32, sends: &'static str) -> Row {
+    Row { from, end, sends }
+}
+
+fn fails_at(rt: &impl Abort, alloc: Global, call: u32, sends: &str) -> Result<(), Fail> {
     let mut device = device(alloc)?;
     device.plan_fault(call, Fault::Fail(Fill::Old))?;
-    let mut out = MemSink::with_room(alloc, 4000)?;
-    let answer = session(alloc, &mut device, &mut out)?;
-    assert_eq!(rt; answer, Status::ReadFault);
-    is_cut_text(rt, out.sent_bytes())
+    says(rt, alloc, &mut device, Status::ReadFault, sends.as_bytes())
+}
+
+fn fails_in(rt: &impl Abort, alloc: Global, row: Row) -> Result<(), Fail> {
+    for call in row.from..row.end {
+        fails_at(rt, alloc, call, row.sends)?;
+    }
+    Ok(())
 }
 
 #[test]
 fn a_read_fails_at_each_place(rt: HostRuntime) -> Result<(), Fail> {
-    for call in 0..102 {
-        fails_at(&rt, rt.alloc(), call)?;
+    for row in rows() {
+        fails_in(&rt, rt.alloc(), row)?;
     }
     Ok(())
 }
+
+const WHOLE: &[u8] = b"copy 0 entries 2\nentry 1\nn=1\ntext=\nentry 2\nn=2\ntext=\n\
+    copy 1 entries 1\nentry 1\nn=4\ntext=\ncopy 2 entries 0\n";
+
+const READS: u64 = 102;
 
 #[test]
 fn no_other_read_is_made(rt: HostRuntime) -> Result<(), Fail> {

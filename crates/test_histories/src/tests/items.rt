@@ -27,6 +27,8 @@ pub enum Item {
     Odd,
     /// A page whose closing words reach past the start of each block.
     Far,
+    /// A page whose closing words have a length of four pages.
+    Around,
     /// A page of zeros.
     Junk,
 }
@@ -46,6 +48,7 @@ impl Item {
             Item::Zero => ZERO,
             Item::Odd => ODD,
             Item::Far => FAR,
+            Item::Around => AROUND,
             Item::Junk => JUNK,
         }
     }
@@ -59,7 +62,7 @@ impl Item {
             Item::Four | Item::Wide => Some("4"),
             Item::Short => Some("3"),
             Item::Half | Item::Failing => None,
-            Item::Zero | Item::Odd | Item::Far | Item::Junk => None,
+            Item::Zero | Item::Odd | Item::Far | Item::Around | Item::Junk => None,
         }
     }
 }
@@ -110,6 +113,9 @@ const ODD: &[u8] = b"\x78\x56\x34\x12\x00\x00\x14\x00\x01\xed\x1b\xc5\x09\xf7\x4
 
 const FAR: &[u8] = b"\x78\x56\x34\x12\x00\x00\x14\x00\x01\xed\x1b\xc5\x09\xf7\x4f\xe9\
     \x02\x00\x00\x00\x00\x00\x00\x00\x02\x2d\xfa\x14\x00\x10\x00\x00";
+
+const AROUND: &[u8] = b"\x78\x56\x34\x12\x00\x00\x14\x00\x01\xed\x1b\xc5\x09\xf7\x4f\xe9\
+    \x02\x00\x00\x00\x00\x00\x00\x00\x02\x2d\xfa\x14\x80\x00\x00\x00";
 
 const JUNK: &[u8] = b"\x00\x00\x00\x00\x00\x00\x00\x00\x00\x00\x00\x00\x00\x00\x00\x00\
     \x00\x00\x00\x00\x00\x00\x00\x00\x00\x00\x00\x00\x00\x00\x00\x00";

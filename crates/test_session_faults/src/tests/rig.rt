@@ -18,6 +18,10 @@ pub enum Rig {
     OneBlock,
     /// The same in logs: a block has room for four entries.
     Log,
+    /// The device with blocks of one record, by a layout with one more number of 4 bytes.
+    GrownBlock,
+    /// The same in logs.
+    GrownLog,
     /// A device of 1 MiB that holds the state of a boot, in strides from 131,072 on.
     Boot,
     /// The same that holds variables of four kinds.
@@ -38,6 +42,8 @@ impl Rig {
             Rig::Grown => GROWN,
             Rig::OneBlock => ONE_BLOCK,
             Rig::Log => LOG,
+            Rig::GrownBlock => GROWN_BLOCK,
+            Rig::GrownLog => GROWN_LOG,
             Rig::Boot => BOOT,
             Rig::Kinds => KINDS,
         }
@@ -46,7 +52,7 @@ impl Rig {
     fn geometry(self) -> &'static str {
         match self {
             Rig::Strides | Rig::Grown => "ov:192",
-            Rig::OneBlock | Rig::Log => "er:32:256:768",
+            Rig::OneBlock | Rig::Log | Rig::GrownBlock | Rig::GrownLog => "er:32:256:768",
             Rig::Boot | Rig::Kinds => "ov:1048576",
         }
     }
@@ -54,7 +60,7 @@ impl Rig {
     fn size(self) -> usize {
         match self {
             Rig::Strides | Rig::Grown => 192,
-            Rig::OneBlock | Rig::Log => 768,
+            Rig::OneBlock | Rig::Log | Rig::GrownBlock | Rig::GrownLog => 768,
             Rig::Boot | Rig::Kinds => 1048576,
         }
     }
@@ -63,7 +69,7 @@ impl Rig {
     fn places(self) -> [usize; 3] {
         match self {
             Rig::Strides | Rig::Grown => [0, 64, 128],
-            Rig::OneBlock | Rig::Log => [0, 256, 512],
+            Rig::OneBlock | Rig::Log | Rig::GrownBlock | Rig::GrownLog => [0, 256, 512],
             Rig::Boot | Rig::Kinds => [131072, 131136, 131200],
         }
     }
@@ -173,6 +179,29 @@ const LOG: &str = "/dts-v1/;
         compatible = \"barebox,state\"; magic = <0x12345678>; backend-type = \"raw\"; backend = <1>;
         n@0 { reg = <0 4>; type = \"uint32\"; default = <3>; };
         text@4 { reg = <4 16>; type = \"string\"; };
+    };
+};";
+
+const GROWN_BLOCK: &str = "/dts-v1/;
+/ {
+    part { phandle = <1>; reg = <0x0 0x300>; };
+    state {
+        compatible = \"barebox,state\"; magic = <0x12345678>; backend-type = \"raw\"; backend = <1>;
+        backend-storage-type = \"noncircular\";
+        n@0 { reg = <0 4>; type = \"uint32\"; default = <3>; };
+        text@4 { reg = <4 16>; type = \"string\"; };
+        m@14 { reg = <20 4>; type = \"uint32\"; default = <7>; };
+    };
+};";
+
+const GROWN_LOG: &str = "/dts-v1/;
+/ {
+    part { phandle = <1>; reg = <0x0 0x300>; };
+    state {
+        compatible = \"barebox,state\"; magic = <0x12345678>; backend-type = \"raw\"; backend = <1>;
+        n@0 { reg = <0 4>; type = \"uint32\"; default = <3>; };
+        text@4 { reg = <4 16>; type = \"string\"; };
+        m@14 { reg = <20 4>; type = \"uint32\"; default = <7>; };
     };
 };";
 
