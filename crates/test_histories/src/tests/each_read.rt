@@ -26,25 +26,25 @@ struct Row {
 // copy the two pages of each entry are read on the way forth before its lines are there.
 fn rows() -> [Row; 6] {
     [
-        row(0, 32, "fault 8 ReadFault\n"),
-        row(32, 34, "copy 0 entries 2\nfault 8 ReadFault\n"),
-        row(
+        at_reads(0, 32, "fault 8 ReadFault\n"),
+        at_reads(32, 34, "copy 0 entries 2\nfault 8 ReadFault\n"),
+        at_reads(
             34,
             36,
             "copy 0 entries 2\nentry 1\nn=1\ntext=\nfault 8 ReadFault\n",
         ),
-        row(
+        at_reads(
             36,
             68,
             "copy 0 entries 2\nentry 1\nn=1\ntext=\nentry 2\nn=2\ntext=\nfault 8 ReadFault\n",
         ),
-        row(
+        at_reads(
             68,
             70,
             "copy 0 entries 2\nentry 1\nn=1\ntext=\nentry 2\nn=2\ntext=\n\
             copy 1 entries 1\nfault 8 ReadFault\n",
         ),
-        row(
+        at_reads(
             70,
             102,
             "copy 0 entries 2\nentry 1\nn=1\ntext=\nentry 2\nn=2\ntext=\n\
@@ -53,7 +53,7 @@ fn rows() -> [Row; 6] {
     ]
 }
 
-fn row(from: u32, end: u32, sends: &'static str) -> Row {
+fn at_reads(from: u32, end: u32, sends: &'static str) -> Row {
     Row { from, end, sends }
 }
 
