@@ -81,8 +81,8 @@ fn an_update_of_strides_outlives_each_fault(rt: HostRuntime) -> Result<(), Fail>
     outlives(&rt, rt.alloc(), update)
 }
 
-// It makes six reads, and an erase and a program for each of the three copies. The last of its reads
-// stands for all of them.
+// It makes six reads, and an erase and a program for each of the three copies. The last of its
+// reads stands for all of them.
 #[test]
 fn an_update_of_blocks_of_one_record_outlives_each_fault(rt: HostRuntime) -> Result<(), Fail> {
     let update = Update {
