@@ -9,17 +9,18 @@
 # options, and what completes the value of each: written by tests/style/commands.
 # begin words
 _bbx_first="--plan= --read-only --explain --progress"
-_bbx_commands="raw state mark-good boot shell install verify history menu drill"
+_bbx_commands="raw state mark-good boot shell install verify history rekey menu drill"
 declare -gA _bbx_before=() _bbx_options=() _bbx_values=()
 _bbx_before[raw]=2
 _bbx_options[raw]="-g -s"
-_bbx_options[state]="-i --input -n --name -k -s --set -g --get -d --dump --dump-shell"
-_bbx_options[mark-good]="-i --input -c -n --name -k"
-_bbx_options[boot]="-i --input -c -n --name -k --cause"
-_bbx_options[shell]="-i --input -c -x -n --name -k --cause"
-_bbx_options[install]="-i --input -c -t -p -f --sha256 -n --name -k"
+_bbx_options[state]="-i --input -n --name -k --old-key -s --set -g --get -d --dump --dump-shell"
+_bbx_options[mark-good]="-i --input -c -n --name -k --old-key"
+_bbx_options[boot]="-i --input -c -n --name -k --old-key --cause"
+_bbx_options[shell]="-i --input -c -x -n --name -k --old-key --cause"
+_bbx_options[install]="-i --input -c -t -p -f --sha256 -n --name -k --old-key"
 _bbx_options[verify]="-i --input -p -f -n --name"
-_bbx_options[history]="-i --input -n --name -k"
+_bbx_options[history]="-i --input -n --name -k --old-key"
+_bbx_options[rekey]="-i --input -k --old-key -n --name"
 _bbx_options[menu]="--dir"
 _bbx_before[drill]=2
 _bbx_options[drill]=""
@@ -28,6 +29,7 @@ _bbx_values[--input]="files"
 _bbx_values[-n]=""
 _bbx_values[--name]=""
 _bbx_values[-k]="files"
+_bbx_values[--old-key]="files"
 _bbx_values[-s]="assignments"
 _bbx_values[--set]="assignments"
 _bbx_values[-g]="variables"
@@ -96,6 +98,7 @@ _bbx_variables() {
       -n | --name) given+=(-n "${words[place + 1]}") ;;
       --name=*) given+=(-n "${words[place]#*=}") ;;
       -k) given+=(-k "${words[place + 1]}") ;;
+      --old-key) given+=(--old-key "${words[place + 1]}") ;;
     esac
   done
   program=$(_bbx_program "${words[0]}") size=$(_bbx_size "${words[2]}")

@@ -49,8 +49,9 @@ def candidate(layout, region):
     return region[end - length:end - 8]
 
 
-def passes(layout, record, key):
-    """The area that a record's bytes pass as, as long as it is stored, None for none."""
+def passes(layout, record, keys):
+    """The area that a record's bytes pass as under one of these keys, as long as it is stored, None
+    for none."""
     if layout.type == b'dtb':
         return passes_as_blob(layout, record)
     if len(record) < 16:
@@ -60,7 +61,7 @@ def passes(layout, record, key):
     area = record[16:end]
     if magic != layout.magic or header_crc != zlib.crc32(record[:12]) or len(area) < length:
         return None
-    is_coded = not layout.keyed or record[end:end + 32] == code(key, record[:end])
+    is_coded = not layout.keyed or record[end:end + 32] in [code(key, record[:end]) for key in keys]
     return area if data_crc == zlib.crc32(area) and is_coded else None
 
 
@@ -92,22 +93,22 @@ def converted(layout, area):
     return bytes(table)
 
 
-def passing(layout, device, key):
+def passing(layout, device, *keys):
     """What each copy passes."""
     found = []
     for copy in range(layout.copies):
         start, end = layout.region(copy)
         record = candidate(layout, device[start:end])
-        found.append(None if record is None else passes(layout, record, key))
+        found.append(None if record is None else passes(layout, record, keys))
     return found
 
 
-def history(layout, device, key):
+def history(layout, device, *keys):
     """What each copy's region holds that passes, oldest first, as it is stored."""
     if layout.storage != 'log':
-        return [[] if area is None else [area] for area in passing(layout, device, key)]
+        return [[] if area is None else [area] for area in passing(layout, device, *keys)]
     regions = [device[slice(*layout.region(copy))] for copy in range(layout.copies)]
-    found = [[passes(layout, record, key) for record in logged(layout, region)] for region in regions]
+    found = [[passes(layout, record, keys) for record in logged(layout, region)] for region in regions]
     return [[area for area in areas if area is not None] for areas in found]
 
 

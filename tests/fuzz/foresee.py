@@ -35,6 +35,7 @@ class Foreseen:
         self.opened = self.cleared = False
         self.command = self.layout = self.settings = self.key = self.menu = self.steps = None
         self.slot = self.image = None
+        self.old_keys = []
         self.plans = {}
         try:
             self.run()
@@ -167,6 +168,10 @@ class Foreseen:
             self.key = key_of(self.named_file(given['k']))
             if isinstance(self.key, str):
                 raise Ends(17, f'BadKey {self.key}')
+            if 'o' in given:
+                self.old_keys = [key_of(self.named_file(given['o']))]
+                if isinstance(self.old_keys[0], str):
+                    raise Ends(17, f'BadKey {self.old_keys[0]}')
         self.foresee_variables()
         if 'c' in given:
             self.foresee_targets(given['c'])

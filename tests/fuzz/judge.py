@@ -50,6 +50,7 @@ DONE = {
     'raw': rb'(none|([0-9a-f]{2})*)\n|',
     'state': rb'.*\n|',
     'menu': rb'.*\n|',
+    'rekey': rb'rekey live [0-3] old [0-3]\n',
     'mark-good': rb'good [A-Za-z0-9_-]+ [0-9]+\n',
     'boot': rb'start [A-Za-z0-9_-]+ left [0-9]+ tries [0-9]+\n',
     'shell': rb'.*',
@@ -132,7 +133,7 @@ class Wanted:
 
     def want_raw(self, command):
         self.layout = Strides(command, self.foreseen.call.geometry)
-        found = [area for area in passing(self.layout, self.base, None) if area is not None]
+        found = [area for area in passing(self.layout, self.base) if area is not None]
         text = (converted(self.layout, found[0]).hex() if found else 'none') + '\n'
         if command.area is not None:
             text, self.area, self.writes, self.saves = '', command.area, True, command.area not in found
@@ -140,7 +141,8 @@ class Wanted:
 
     def want_history(self):
         lines = []
-        for copy, areas in enumerate(history(self.layout, self.base, self.foreseen.key)):
+        keys = [self.foreseen.key] + self.foreseen.old_keys
+        for copy, areas in enumerate(history(self.layout, self.base, *keys)):
             lines.append(b'copy %d entries %d\n' % (copy, len(areas)))
             for number, area in enumerate(areas, 1):
                 table = Table(self.layout, converted(self.layout, area))
@@ -149,11 +151,13 @@ class Wanted:
 
     def want_state(self, command):
         foreseen = self.foreseen
-        found = passing(self.layout, self.base, foreseen.key)
+        found = passing(self.layout, self.base, foreseen.key, *foreseen.old_keys)
         loaded = next((area for area in found if area is not None), None)
         first = converted(self.layout, loaded or b'')
         table, begun = Table(self.layout, first), None
-        if command.name == 'state':
+        if command.name == 'rekey':
+            status, text = 0, f'rekey live {0 if loaded is None else self.layout.copies} old 0\n'
+        elif command.name == 'state':
             status, text = 0, table.act(command.actions)
         elif command.name == 'shell':
             targets = Targets(foreseen.settings, table)
@@ -175,8 +179,9 @@ class Wanted:
         self.saves = last != first and last not in found
         kept = last if last != first else loaded
         if kept is not None:
+            new = passing(self.layout, self.base, foreseen.key)
             self.area = kept
-            self.writes = last != first or any(area != kept for area in found)
+            self.writes = last != first or any(area != kept for area in new)
         if begun is not None:
             self.area, self.writes, self.saves = last, True, begun not in found
         self.longest = max(len(area) for area in found + [last] if area is not None)

@@ -132,11 +132,18 @@ class Maker:
             key = dice.pick([b'Jefe', b'k', bytes(65)])
             run.files[b'key.hex'] = key.hex().encode() + dice.pick([b'', b'\n', b' \r\n'])
             words += [b'-k', b'key.hex']
+        written = key
+        if key and dice.once_in(3):
+            written = dice.pick([key, b'old'])
+            run.files[b'old.hex'] = dice.pick([key, b'old']).hex().encode()
+            words += [b'--old-key', b'old.hex']
         if dice.once_in(9):
             words += [b'-n', dice.pick([layout.name, b'state', b'other', b''])]
+        if command == b'state' and b'--old-key' in words and dice.once_in(3):
+            command = b'rekey'
         if command == b'state':
             words = self.actions(layout, words)
-        elif command not in (b'history', b'verify'):
+        elif command not in (b'history', b'verify', b'rekey'):
             self.targets(12 if command == b'install' else 3)
             words += [b'-c', b'set.txt']
         if command == b'shell':
@@ -145,7 +152,7 @@ class Maker:
         if command in (b'boot', b'shell') and dice.once_in(3):
             words += [b'--cause', dice.pick([b'power-on', b'reset', b'other'])]
         run.words = [command] + words
-        run.bytes = device(dice, layout, key)
+        run.bytes = device(dice, layout, written)
         if drawn:
             self.image(drawn, command)
 

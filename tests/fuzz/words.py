@@ -5,9 +5,10 @@ import re
 from values import geometry_of, is_number, is_utf8, number
 
 LONG = {'--input': '-i', '--name': '-n', '--get': '-g', '--set': '-s'}
-# The options of each command that have a value and come once at most.
-ONCE = {'state': 'ink', 'history': 'ink', 'mark-good': 'inkc', 'boot': 'inkc', 'shell': 'inkcx',
-        'install': 'inkctpf', 'verify': 'inpf'}
+# The options of each command that have a value and come once at most, by their letters, `o` being
+# --old-key, and those of them that have to be there wherever a command has them.
+ONCE = {'state': 'inko', 'history': 'inko', 'rekey': 'inko', 'mark-good': 'inkoc', 'boot': 'inkoc',
+        'shell': 'inkocx', 'install': 'inkoctpf', 'verify': 'inpf'}
 HAS_TO_BE = set('icxtpf')
 SESSIONS = range(1, 1001)
 SHORT = re.compile('-[a-z]')
@@ -127,7 +128,9 @@ class Command:
                 due = option
             elif option == '--sha256' and self.name == 'install' and 'sha256' not in self.given:
                 due = option
-            elif SHORT.fullmatch(option or '') and option[1] in set(once) - set(self.given):
+            elif option == '--old-key' and 'o' in set(once) - set(self.given):
+                due = option
+            elif SHORT.fullmatch(option or '') and option[1] in set(once) - set(self.given) - {'o'}:
                 due = option
             else:
                 raise Bad(place)
@@ -135,6 +138,7 @@ class Command:
                 self.take(due, value, place)
                 due = None
         wanted = HAS_TO_BE & set(once) | ({'sha256'} if self.name == 'install' else set())
+        wanted |= {'k', 'o'} if self.name == 'rekey' else set()
         if due or not wanted <= set(self.given):
             raise Bad(len(self.words) + 1)
 
@@ -155,7 +159,7 @@ class Command:
         elif option == '-g':
             self.actions.append(('get', value, None))
         else:
-            self.given[option[1]] = value
+            self.given['o' if option == '--old-key' else option[1]] = value
 
 
 class BadSettings(Exception):

@@ -21,7 +21,8 @@ pub record Form : Type 0 where
   -- whether an area can be kept as a record, and as which one
   pub fits : List ℕ → Bool
   pub text : List ℕ → List ℕ
-  -- the area that bytes pass as, if they do, and whether they pass as an old one alone
+  -- the area that bytes pass as, if they do, and whether they pass as an old one alone, as under a
+  -- key that is being changed
   pub passes : List ℕ → Option (List ℕ)
   pub aged : List ℕ → Bool
 

@@ -13,7 +13,7 @@ pub const MOST_COPIES: u32 = 3;
 pub struct Passed {
     /// The area's length in bytes.
     pub len: usize,
-    /// Whether it passes as an old area alone. No format of today has such areas.
+    /// Whether it passes as an old area alone, as under a key that is being changed.
     pub old: bool,
 }
 

@@ -13,6 +13,7 @@ use Rattle.bb_flash.specs.Image.{Image, Torn}
 use Rattle.bb_flash.proofs.Moments.{image_at-now}
 use Rattle.bb_bucket.specs.Calls.{EachCall, EndsTorn, IsTornLast, but_reads, told_but_reads}
 use Rattle.bb_bucket.proofs.Runs.{calls_joined}
+use Rattle.bb_copies.specs.Ages.{AgedArea}
 use Rattle.bb_copies.specs.Luck.{IsLucky}
 use Rattle.bb_copies.specs.Passing.{passes_at}
 
@@ -23,13 +24,33 @@ decided false xs ys e = inr (λ same. let test = (bytes_eq-Decides xs ys).1 same
 same_bytes : (xs ys : List ℕ) → (xs ≡ ys) ⊎ (xs ≢ ys)
 same_bytes xs ys = decided (bytes_eq xs ys) xs ys refl
 
-passes_or_not : (passes : Option (List ℕ)) (area : List ℕ) → (passes ≡ Some area) ⊎ (passes ≢ Some area)
-passes_or_not None area = inr (λ e. absurd cc)
-passes_or_not (Some other) area = elim (same_bytes other area) [ inl same ↦ inl (ap Some same) | inr differs ↦ inr (λ e. differs cc) ]
+same_age : (a b : Bool) → (a ≡ b) ⊎ (a ≢ b)
+same_age true true = inl refl
+same_age true false = inr (λ e. absurd cc)
+same_age false true = inr (λ e. absurd cc)
+same_age false false = inl refl
+
+joined_same : (x y : AgedArea) → x.area ≡ y.area → x.old ≡ y.old → x ≡ y
+joined_same x y areas ages =
+    let with : List ℕ → Bool → AgedArea = λ area old. record { area = area; old = old } in
+    ap (λ area. with area x.old) areas ∙ ap (with y.area) ages
+
+same_aged : (x y : AgedArea) → (x ≡ y) ⊎ (x ≢ y)
+same_aged x y = elim (same_bytes x.area y.area) [
+  | inl areas ↦ elim (same_age x.old y.old) [
+    | inl ages ↦ inl (joined_same x y areas ages)
+    | inr differs ↦ inr (λ e. differs (ap (λ (p : AgedArea). p.old) e))
+  ]
+  | inr differs ↦ inr (λ e. differs (ap (λ (p : AgedArea). p.area) e))
+]
+
+passes_or_not : (passes : Option AgedArea) (passed : AgedArea) → (passes ≡ Some passed) ⊎ (passes ≢ Some passed)
+passes_or_not None passed = inr (λ e. absurd cc)
+passes_or_not (Some other) passed = elim (same_aged other passed) [ inl same ↦ inl (ap Some same) | inr differs ↦ inr (λ e. differs cc) ]
 
 -- where no luck is, what a copy passes it passed before the call, or passes where the call answers
 -- Ok
-pub unlucky_passes : (passing : Image → List (Option (List ℕ))) (change : Change) (image : Image) (copy : ℕ) (area : List ℕ) → (IsLucky passing change image → ⊥) → passes_at (passing image) copy ≡ Some area → (passes_at (passing change.before) copy ≡ Some area) ⊎ (passes_at (passing change.after) copy ≡ Some area)
+pub unlucky_passes : (passing : Image → List (Option AgedArea)) (change : Change) (image : Image) (copy : ℕ) (area : AgedArea) → (IsLucky passing change image → ⊥) → passes_at (passing image) copy ≡ Some area → (passes_at (passing change.before) copy ≡ Some area) ⊎ (passes_at (passing change.after) copy ≡ Some area)
 unlucky_passes passing change image copy area unlucky passes = elim (passes_or_not (passes_at (passing change.before) copy) area) [
   | inl before ↦ inl before
   | inr not_before ↦ elim (passes_or_not (passes_at (passing change.after) copy) area) [

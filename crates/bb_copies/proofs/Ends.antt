@@ -11,7 +11,7 @@ use Rattle.bb_flash.specs.Image.{Image}
 use Rattle.bb_bucket.specs.Calls.{ErasesWhere, FailsToLook, Leaves, MakesCalls, calls_of_write}
 use Rattle.bb_bucket.specs.Kind.{BucketKind, IsKind, part_of}
 use Rattle.bb_copies.specs.declared.settle.Settled.{Settled}
-use Rattle.bb_copies.specs.declared.settle.Settled.TheVariants.{Good, Dead, Stuck}
+use Rattle.bb_copies.specs.declared.settle.Settled.TheVariants.{Good, Aged, Dead, Stuck}
 use Rattle.bb_copies.specs.Passing.{passing_of}
 use Rattle.bb_copies.specs.Settling.{CountsAs, EndsAs, FailsBy, IsCompared, IsDead, IsGood, IsRepairWritten, PassesAnother, ReadsAs, ReadsOnce, RoseBy, twice_more}
 use Rattle.bb_copies.proofs.OneCopy.{begun_passes}
@@ -44,10 +44,11 @@ voided_nothing form kind from to kinds later leaves = λ after e.
     let there = content_before from to later after e in
     ap (λ region. option_and_then form.passes (kind.candidate_of region)) (leaves.there there.0 there.1 after e) ∙ ap (option_and_then form.passes) (kinds.voided (part_of from.geometry.page kind.region there.0))
 
-pub read_as : (form : Form) (kind : BucketKind) (area out : List ℕ) (from to : Device) (result : Settled) → IsCompared out area result → content to ≡ content from → ForSome (content from) (λ image. Some out ≡ passing_of form from.geometry.page kind image) → ReadsAs form kind area from to result
-read_as form kind area out from to Good same kept passes = record { passes = λ image e. sym (passes image (sym kept ∙ e)) ∙ ap Some same }
-read_as form kind area out from to Dead same kept passes = absurd same
-read_as form kind area out from to Stuck differs kept passes = inl (λ image e. record { other = out; passed = sym (passes image (sym kept ∙ e)); differs = differs })
+pub read_as : (form : Form) (kind : BucketKind) (area out : List ℕ) (old : Bool) (from to : Device) (result : Settled) → IsCompared out old area result → content to ≡ content from → ForSome (content from) (λ image. Some out ≡ passing_of form from.geometry.page kind image) → ReadsAs form kind area from to result
+read_as form kind area out old from to Good same kept passes = record { passes = λ image e. sym (passes image (sym kept ∙ e)) ∙ ap Some same.0 }
+read_as form kind area out old from to Aged same kept passes = record { passes = λ image e. sym (passes image (sym kept ∙ e)) ∙ ap Some same.0 }
+read_as form kind area out old from to Dead same kept passes = absurd same
+read_as form kind area out old from to Stuck differs kept passes = inl (λ image e. record { other = out; passed = sym (passes image (sym kept ∙ e)); differs = differs })
 
 pub voided_dead : (form : Form) (kind later : BucketKind) (from mid to : Device) → later ≡ kind → IsKind later → IsLater from mid → IsLater mid to → Leaves later.region later.after_void mid to → Rose from.faults to.faults → IsDead form kind from to
 voided_dead form kind later from mid to same kinds h k leaves rose =
@@ -59,6 +60,8 @@ voided_dead form kind later from mid to same kinds h k leaves rose =
 -- the ends after a write and a void that both failed, by what was read back then
 ends_read : (form : Form) (kind : BucketKind) (area : List ℕ) (from mid to : Device) (result : Settled) → IsLater from mid → RoseBy 2 from.faults mid.faults → IsLater mid to → ReadsAs form kind area mid to result → EndsAs form kind area from to result
 ends_read form kind area from mid to Good later rose after reading =
+    record { passes = subst (λ (p : ℕ). ForSome (content to) (λ image. passing_of form p kind image ≡ Some area)) (ap (λ geo. geo.page) later.geometry) reading.passes }
+ends_read form kind area from mid to Aged later rose after reading =
     record { passes = subst (λ (p : ℕ). ForSome (content to) (λ image. passing_of form p kind image ≡ Some area)) (ap (λ geo. geo.page) later.geometry) reading.passes }
 ends_read form kind area from mid to Dead later rose after reading =
     let high = after.faults in
@@ -140,12 +143,14 @@ written_once kind rec r from to ok leaves erases made faults reads = record {
 -- which calls failed, by what reading back added
 pub counts_read : (kind : BucketKind) (rec : List ℕ) (from mid to : Device) (settled : Settled) → FailsBy twice_more from mid → ReadsOnce mid to settled → CountsAs kind rec from to settled
 counts_read kind rec from mid to Good by read = inr (record { faults = read.0 ∙ by.faults; read_faults = read.1 ∙ by.read_faults })
+counts_read kind rec from mid to Aged by read = record { faults = read.0 ∙ by.faults; read_faults = read.1 ∙ by.read_faults }
 counts_read kind rec from mid to Dead by read = inr (record { faults = read.0 ∙ by.faults; read_faults = read.1 ∙ by.read_faults })
 counts_read kind rec from mid to Stuck by (inl read) = inl (record { faults = read.0 ∙ by.faults; read_faults = read.1 ∙ by.read_faults })
 counts_read kind rec from mid to Stuck by (inr read) = inr (record { faults = read.0 ∙ ap one_more by.faults; read_faults = read.1 ∙ ap one_more by.read_faults })
 
 pub read_most : (from to : Device) (settled : Settled) → ReadsOnce from to settled → to.faults ≤ from.faults + 1
 read_most from to Good read = let same = read.0 in omega (arith, same)
+read_most from to Aged read = let same = read.0 in omega (arith, same)
 read_most from to Dead read = let same = read.0 in omega (arith, same)
 read_most from to Stuck (inl read) = let same = read.0 in omega (arith, same)
 read_most from to Stuck (inr read) =
@@ -156,5 +161,6 @@ read_most from to Stuck (inr read) =
 -- a copy was read back
 pub counts_compared : (from to : Device) (settled : Settled) → to.faults ≡ from.faults → to.read_faults ≡ from.read_faults → ReadsOnce from to settled
 counts_compared from to Good faults reads = (faults, reads)
+counts_compared from to Aged faults reads = (faults, reads)
 counts_compared from to Dead faults reads = (faults, reads)
 counts_compared from to Stuck faults reads = inl (faults, reads)

@@ -14,9 +14,11 @@ use Rattle.bb_bucket.proofs.Quiet.{agrees_kept}
 use Rattle.bb_copies.specs.declared.read.PassingCopy.{PassingCopy}
 use Rattle.bb_copies.specs.Buckets.{AllAgree, EachCopy, IsFoundWithin}
 use Rattle.bb_copies.specs.declared.look.FirstCopy.{FirstCopy}
-use Rattle.bb_copies.specs.Looking.{FindsBelow, IsFresh, IsReadAt, IsFirstNow, PassNothing, area_by, copy_of, front_kept, good_by, used_by}
-use Rattle.bb_copies.specs.Passing.{FitsFront, IsReading, passing_of}
+use Rattle.bb_copies.specs.Looking.{FindsBelow, FirstAges, IsFresh, IsReadAt, IsFirstNow, PassNothing, area_by, copy_of, front_kept, good_by, used_by}
+use Rattle.bb_copies.specs.Ages.{is_old}
+use Rattle.bb_copies.specs.Passing.{FitsFront, IsReading, aged_passing_of, passing_of}
 use Rattle.bb_copies.specs.Refreshing.{is_marked}
+use Rattle.bb_copies.proofs.Ages.{passes_aged}
 use Rattle.bb_copies.proofs.Many.{get_set_other, get_set_same, same_or_not}
 
 -- ---- what a read leaves of the buckets
@@ -35,18 +37,23 @@ ok_weaker (Err e) P Q weaker p = tt
 
 -- ---- whether a copy is fresh
 
-decides_fresh : (form : Form) (page : ℕ) (kind : BucketKind) (image : Image) (found area : List ℕ) (worn same : Bool) → Some found ≡ passing_of form page kind image → worn ≡ kind.is_worn (part_of page kind.region image) → Decides same (found ≡ area) → Decides (not worn && same) (IsFresh form page kind area image)
-decides_fresh form page kind image found area true same passes is_worn test = (λ e. absurd cc, λ fresh. let sound = fresh.sound in absurd cc)
-decides_fresh form page kind image found area false same passes is_worn test = (
-  λ e. record { passes = sym passes ∙ ap Some (test.0 e); sound = sym is_worn },
+decides_fresh : (form : Form) (page : ℕ) (kind : BucketKind) (image : Image) (found area : List ℕ) (worn old same : Bool) → Some found ≡ passing_of form page kind image → worn ≡ kind.is_worn (part_of page kind.region image) → is_old (aged_passing_of form page kind image) ≡ old → Decides same (found ≡ area) → Decides (not worn && not old && same) (IsFresh form page kind area image)
+decides_fresh form page kind image found area true old same passes is_worn age test = (λ e. absurd cc, λ fresh. let sound = fresh.sound in absurd cc)
+decides_fresh form page kind image found area false true same passes is_worn age test = (λ e. absurd cc, λ fresh. let young = fresh.young in absurd cc)
+decides_fresh form page kind image found area false false same passes is_worn age test = (
+  λ e. record { passes = sym passes ∙ ap Some (test.0 e); young = age; sound = sym is_worn },
   λ fresh. test.1 (let both : Some found ≡ Some area = passes ∙ fresh.passes in cc),
 )
+
+-- whether a copy that was read is old
+pub age_read : (form : Form) (page : ℕ) (kind : BucketKind) (image : Image) (found : List ℕ) (passed : PassingCopy) → IsReading form page kind image found (Some passed) → is_old (aged_passing_of form page kind image) ≡ passed.old
+age_read form page kind image found passed reading = ap is_old (passes_aged form page kind image (take passed.len found) passed.old (sym reading.area) reading.age)
 
 good_decides : (form : Form) (page : ℕ) (kind : BucketKind) (image : Image) (found area : List ℕ) (passed : Option PassingCopy) → IsReading form page kind image found passed → Decides (good_by found passed area) (IsFresh form page kind area image)
 good_decides form page kind image found area None reading = (λ e. absurd cc, λ fresh. let both : None ≡ Some area = reading.area ∙ fresh.passes in absurd cc)
 good_decides form page kind image found area (Some passed) reading =
     let front : List ℕ = take passed.len found in
-    decides_fresh form page kind image front area passed.worn (bytes_eq front area) reading.area reading.worn (bytes_eq-Decides front area)
+    decides_fresh form page kind image front area passed.worn passed.old (bytes_eq front area) reading.area reading.worn (age_read form page kind image found passed reading) (bytes_eq-Decides front area)
 
 -- ---- one copy more
 
@@ -106,7 +113,7 @@ pub nothing_first : (copy : ℕ) (found area : List ℕ) (used : Option FirstCop
 nothing_first copy found area None = (refl, refl)
 nothing_first copy found area (Some first) = (refl, refl)
 
-pub first_taken : (copy : ℕ) (found area shown rest : List ℕ) (passed : PassingCopy) → passed.len ≤ length found → shown ≡ take passed.len found → IsFirstNow copy found (Some passed) area (shown ++ rest) None (Some (record { copy = copy; len = passed.len }))
+pub first_taken : (copy : ℕ) (found area shown rest : List ℕ) (passed : PassingCopy) → passed.len ≤ length found → shown ≡ take passed.len found → IsFirstNow copy found (Some passed) area (shown ++ rest) None (Some (record { copy = copy; len = passed.len; old = passed.old }))
 first_taken copy found area shown rest passed inside is =
     let long : length shown ≡ passed.len = ap length is ∙ length-take-le passed.len found inside in
     (refl, take_at shown rest passed.len long ∙ is)
@@ -120,6 +127,14 @@ pub first_front : (copy : ℕ) (found : List ℕ) (passed : Option PassingCopy) 
 first_front copy found passed old new (Some first) now h = ap (λ u. front_kept u new) h.0 ∙ ap (take first.len) h.1
 first_front copy found (Some passed) old new None now h = ap (λ u. front_kept u new) h.0 ∙ h.1
 first_front copy found None old new None now h = ap (λ u. front_kept u new) h.0
+
+-- whether it is old, where the copy of a number was read too
+pub ages_step : (form : Form) (page : ℕ) (kinds : List BucketKind) (copy : ℕ) (found : List ℕ) (passed : Option PassingCopy) (old new : List ℕ) (image : Image) (used now : Option FirstCopy) → IsFirstNow copy found passed old new used now → FirstAges form page kinds image used → IsReadAt form page kinds copy image found passed → FirstAges form page kinds image now
+ages_step form page kinds copy found passed old new image (Some first) now h ages reading = subst (FirstAges form page kinds image) (sym h.0) ages
+ages_step form page kinds copy found (Some passed) old new image None now h ages reading =
+    subst (FirstAges form page kinds image) (sym h.0)
+    (λ place kind e same. age_read form page kind image found passed (reading place kind e same))
+ages_step form page kinds copy found None old new image None now h ages reading = subst (FirstAges form page kinds image) (sym h.0) tt
 
 -- ---- what holds of the first that passes, by its number and its area
 

@@ -42,7 +42,7 @@ unmarked_counts good copy inside mark =
     let less : count (get_or good copy false) ≤ count_by not good = get_or-le-sum_by count good copy false inside in
     omega (arith, here, less)
 
-marked_inside : (good : List Bool) (copy : ℕ) → is_marked good copy ≡ true → copy < length good
+pub marked_inside : (good : List Bool) (copy : ℕ) → is_marked good copy ≡ true → copy < length good
 marked_inside good copy mark = elim (below_or_past copy (length good)) [
   | inl low ↦ low
   | inr past ↦ let none = get_or_past good copy false past in absurd cc

@@ -1,12 +1,15 @@
 mod Examples
+pub mod Ages
 pub mod Bounded
 pub mod Calls
 pub mod Cutting
+pub mod Dating
 pub mod Ends
 pub mod Erased
 pub mod Finding
 pub mod Held
 pub mod History
+pub mod LastAges
 pub mod Lasts
 pub mod Loads
 pub mod Many

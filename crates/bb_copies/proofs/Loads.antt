@@ -16,15 +16,17 @@ use Rattle.bb_bucket.specs.Kind.{BucketKind, part_of}
 use Rattle.bb_copies.specs.declared.answers.Loaded.{Loaded}
 use Rattle.bb_copies.specs.declared.answers.Loaded.TheVariants.{Copy, NoCopy}
 use Rattle.bb_copies.specs.declared.read.PassingCopy.{PassingCopy}
+use Rattle.bb_copies.specs.Ages.{AgedArea, fresh}
 use Rattle.bb_copies.specs.Buckets.{EachCopy}
 use Rattle.bb_copies.specs.Loading.{IsAllKept, IsEmpty, IsExact, IsFirstArea, IsLoadStuck, IsReadFault, LoadErases, IsTaken, LoadImages, LoadRuns, LoadsExactly, LookGives, StandsStill, looked_in}
 use Rattle.bb_copies.specs.Erasing.{ErasesBy, IsBounded, unmarked_kinds}
 use Rattle.bb_copies.specs.Looking.{IsFirst, IsReadAt, PassNothing}
 use Rattle.bb_copies.specs.Luck.{IsLucky}
-use Rattle.bb_copies.specs.Passing.{FitsFront, passing_of, passings}
+use Rattle.bb_copies.specs.Passing.{FitsFront, aged_passings, passing_of, passings}
 use Rattle.bb_copies.specs.Refreshing.{AllHeld, AllWritten, IsFirstMarked, IsStuckAt, KeepsMarked, NeverEmpty, Refreshes, area_if, is_marked}
 use Rattle.bb_copies.specs.Settling.{NothingFails, RoseBy}
 use Rattle.bb_copies.specs.StandsFor.{IsAreaOrNone, KeepsOrTakes, SomePasses, Stands, first_passed}
+use Rattle.bb_copies.proofs.Ages.{keeps_areas}
 use Rattle.bb_copies.proofs.Below.{kind_inside, stuck_earlier}
 use Rattle.bb_copies.proofs.Erased.{erases_behind, read_changes}
 use Rattle.bb_copies.proofs.Held.{never_joined, true_or_false}
@@ -44,7 +46,7 @@ unchanged_runs form kinds from to told keeps later whole =
     let same : EachImage (λ before image. image ≡ before) from to = read_images from to told in
     let run = unchanged_refreshes form kinds [] from to same later (record { starts = keeps.starts; start_faults = keeps.start_faults }) whole in
     record {
-      images = counted_of_images (IsLucky passing) (λ before image. StandsStill (passing before) (passing image)) from to (images_weaker (λ before image. image ≡ before) (λ before image. StandsStill (passing before) (passing image)) from to (still passing) same);
+      images = counted_of_images (IsLucky (aged_passings form from.geometry.page kinds)) (λ before image. StandsStill (passing before) (passing image)) from to (images_weaker (λ before image. image ≡ before) (λ before image. StandsStill (passing before) (passing image)) from to (still passing) same);
       outside = run.outside;
       later = later;
       starts = run.starts;
@@ -104,10 +106,11 @@ load_images : (form : Form) (kinds : List BucketKind) (area : List ℕ) (from to
 unfolding Spared
 load_images form kinds area from to run never entry =
     let passing : Image → List (Option (List ℕ)) = passings form from.geometry.page kinds in
-    counted_both (IsLucky passing) (λ before image. KeepsOrTakes area (passing before) (passing image)) (λ before image. Spared area (passing before) (passing image)) (λ before image. StandsStill (passing before) (passing image)) from to
+    let aged : Image → List (Option AgedArea) = aged_passings form from.geometry.page kinds in
+    counted_both (IsLucky aged) (λ before image. KeepsOrTakes (fresh area) (aged before) (aged image)) (λ before image. Spared area (passing before) (passing image)) (λ before image. StandsStill (passing before) (passing image)) from to
     (λ before image keeps spared first h a marks stands.
     load_during first (passing before) h a marks stands (passing image)
-    (subst (λ (xs : List ℕ). KeepsOrTakes xs (passing before) (passing image)) (sym (spared.1 first)) keeps) (λ some. spared.0))
+    (subst (λ (xs : List ℕ). KeepsOrTakes xs (passing before) (passing image)) (sym (spared.1 first)) (keeps_areas form from.geometry.page kinds area before image keeps)) (λ some. spared.0))
     run.counted
     (record {
       each = λ first e last f image cut.

@@ -14,9 +14,10 @@ use Rattle.bb_flash.proofs.Moments.{Cuts-now, images_weaker}
 use Rattle.bb_flash.proofs.Regions.{Torn-region}
 use Rattle.bb_bucket.specs.Calls.{Agrees, EachCall, HasFound, IsWithin, range_of}
 use Rattle.bb_bucket.specs.Kind.{BucketKind, Holding, IsKind, part_of}
+use Rattle.bb_copies.specs.Ages.{AgedArea, fresh}
 use Rattle.bb_copies.specs.Buckets.{AllAgree, AllServe, AreApart, EachCopy, IsApart, kinds_of}
 use Rattle.bb_copies.specs.Luck.{IsLucky}
-use Rattle.bb_copies.specs.Passing.{passes_at, passing_of, passings}
+use Rattle.bb_copies.specs.Passing.{aged_of, aged_passing_of, aged_passings, passes_at, passing_of, passings}
 use Rattle.bb_copies.specs.Refreshing.{IsUntouched, LeavesOthers, Refreshes}
 use Rattle.bb_copies.specs.Settling.{SettlesCopy}
 use Rattle.bb_copies.specs.StandsFor.{IsKeptOrTaken, KeepsOrTakes}
@@ -92,6 +93,9 @@ same_part page region before image same =
     let new : Image = part_of page region image in
     ap (λ bytes. with bytes new.health) same.bytes ∙ ap (with old.bytes) same.health
 
+pub same_aged : (form : Form) (page : ℕ) (kind : BucketKind) (before image : Image) → IsSameRegion page kind.region.at kind.region.size before image → aged_passing_of form page kind image ≡ aged_passing_of form page kind before
+same_aged form page kind before image same = ap (λ part. option_and_then (aged_of form) (kind.candidate_of part)) (same_part page kind.region before image same)
+
 pub same_passing : (form : Form) (page : ℕ) (kind : BucketKind) (before image : Image) → IsSameRegion page kind.region.at kind.region.size before image → passing_of form page kind image ≡ passing_of form page kind before
 same_passing form page kind before image same = ap (λ part. option_and_then form.passes (kind.candidate_of part)) (same_part page kind.region before image same)
 
@@ -117,29 +121,34 @@ passes_kind form page kinds copy kind image e =
     let f : BucketKind → Option (List ℕ) = λ k. passing_of form page k image in
     ap (option_and_then (λ (area : Option (List ℕ)). area)) (slice_get-map f kinds copy ∙ ap (option_map f) e)
 
-lucky_at : (form : Form) (page : ℕ) (kinds : List BucketKind) (copy : ℕ) (kind : BucketKind) (change : Change) (image : Image) (place : ℕ) (area : List ℕ) → slice_get kinds copy ≡ Some kind → passes_at (passings form page (kind ∷ []) image) place ≡ Some area → passes_at (passings form page (kind ∷ []) change.before) place ≢ Some area → passes_at (passings form page (kind ∷ []) change.after) place ≢ Some area → IsLucky (passings form page kinds) change image
+aged_kind : (form : Form) (page : ℕ) (kinds : List BucketKind) (copy : ℕ) (kind : BucketKind) (image : Image) → slice_get kinds copy ≡ Some kind → passes_at (aged_passings form page kinds image) copy ≡ aged_passing_of form page kind image
+aged_kind form page kinds copy kind image e =
+    let f : BucketKind → Option AgedArea = λ k. aged_passing_of form page k image in
+    ap (option_and_then (λ (passed : Option AgedArea). passed)) (slice_get-map f kinds copy ∙ ap (option_map f) e)
+
+lucky_at : (form : Form) (page : ℕ) (kinds : List BucketKind) (copy : ℕ) (kind : BucketKind) (change : Change) (image : Image) (place : ℕ) (area : AgedArea) → slice_get kinds copy ≡ Some kind → passes_at (aged_passings form page (kind ∷ []) image) place ≡ Some area → passes_at (aged_passings form page (kind ∷ []) change.before) place ≢ Some area → passes_at (aged_passings form page (kind ∷ []) change.after) place ≢ Some area → IsLucky (aged_passings form page kinds) change image
 lucky_at form page kinds copy kind change image zero area e passes not_before not_after = record {
   copy = copy;
   area = area;
-  passes = passes_kind form page kinds copy kind image e ∙ passes;
-  not_before = λ h. not_before (sym (passes_kind form page kinds copy kind change.before e) ∙ h);
-  not_after = λ h. not_after (sym (passes_kind form page kinds copy kind change.after e) ∙ h);
+  passes = aged_kind form page kinds copy kind image e ∙ passes;
+  not_before = λ h. not_before (sym (aged_kind form page kinds copy kind change.before e) ∙ h);
+  not_after = λ h. not_after (sym (aged_kind form page kinds copy kind change.after e) ∙ h);
 }
 lucky_at form page kinds copy kind change image (suc place) area e passes not_before not_after = absurd cc
 
 -- the others pass what they passed before
 OthersPass : Form → ℕ → List BucketKind → ℕ → Image → Image → Type 0
-OthersPass form page kinds copy before image = EachCopy kinds (λ place kind. place ≢ copy → passing_of form page kind image ≡ passing_of form page kind before)
+OthersPass form page kinds copy before image = EachCopy kinds (λ place kind. place ≢ copy → aged_passing_of form page kind image ≡ aged_passing_of form page kind before)
 
-one_of_all : (form : Form) (page : ℕ) (kinds : List BucketKind) (copy : ℕ) (kind : BucketKind) (area : List ℕ) (before image : Image) → slice_get kinds copy ≡ Some kind → IsKeptOrTaken area (passing_of form page kind before) (passing_of form page kind image) → OthersPass form page kinds copy before image → KeepsOrTakes area (passings form page kinds before) (passings form page kinds image)
+one_of_all : (form : Form) (page : ℕ) (kinds : List BucketKind) (copy : ℕ) (kind : BucketKind) (area : List ℕ) (before image : Image) → slice_get kinds copy ≡ Some kind → IsKeptOrTaken (fresh area) (aged_passing_of form page kind before) (aged_passing_of form page kind image) → OthersPass form page kinds copy before image → KeepsOrTakes (fresh area) (aged_passings form page kinds before) (aged_passings form page kinds image)
 unfolding OthersPass
 one_of_all form page kinds copy kind area before image e here others =
-    zip_kinds (IsKeptOrTaken area) (λ k. passing_of form page k before) (λ k. passing_of form page k image) kinds
+    zip_kinds (IsKeptOrTaken (fresh area)) (λ k. aged_passing_of form page k before) (λ k. aged_passing_of form page k image) kinds
     (λ place beside f. elim (same_or_not place copy) [
       | inl same ↦
           let found : Some kind ≡ Some beside = sym e ∙ ap (slice_get kinds) (sym same) ∙ f in
           let is : kind ≡ beside = cc in
-          subst (λ (k : BucketKind). IsKeptOrTaken area (passing_of form page k before) (passing_of form page k image)) is here
+          subst (λ (k : BucketKind). IsKeptOrTaken (fresh area) (aged_passing_of form page k before) (aged_passing_of form page k image)) is here
       | inr other ↦ inl (inl (others place beside f other))
     ])
 
@@ -159,17 +168,17 @@ pub settled_refreshes : (form : Form) (kinds : List BucketKind) (area : List ℕ
 unfolding OthersPass
 settled_refreshes form kinds area copy kind from to laws apart serves whole e settles =
     let page : ℕ = from.geometry.page in
-    let lucky : Change → Image → Type 0 = IsLucky (passings form page kinds) in
-    let kept : Image → Image → Type 0 = λ before image. IsKeptOrTaken area (passing_of form page kind before) (passing_of form page kind image) in
+    let lucky : Change → Image → Type 0 = IsLucky (aged_passings form page kinds) in
+    let kept : Image → Image → Type 0 = λ before image. IsKeptOrTaken (fresh area) (aged_passing_of form page kind before) (aged_passing_of form page kind image) in
     let others : EachImage (OthersPass form page kinds copy) from to = images_weaker (Torn page kind.region.at kind.region.size) (OthersPass form page kinds copy) from to
-    (λ before image torn place beside f other. same_passing form page beside before image
+    (λ before image torn place beside f other. same_aged form page beside before image
     (torn_beside kind beside.region from before image (laws copy kind e) (serves copy kind e) whole (apart copy kind e place beside f other) torn)) settles.torn.images in
     record {
       counted =
           counted_both lucky kept (OthersPass form page kinds copy)
-          (λ before image. KeepsOrTakes area (passings form page kinds before) (passings form page kinds image)) from to
+          (λ before image. KeepsOrTakes (fresh area) (aged_passings form page kinds before) (aged_passings form page kinds image)) from to
           (λ before image here beside. one_of_all form page kinds copy kind area before image e here beside)
-          (counted_fewer (IsLucky (passings form page (kind ∷ []))) lucky kept from to
+          (counted_fewer (IsLucky (aged_passings form page (kind ∷ []))) lucky kept from to
           (λ change image luck. lucky_at form page kinds copy kind change image luck.copy luck.area e luck.passes luck.not_before luck.not_after)
           settles.counted)
           others;

@@ -1,5 +1,6 @@
 -- A record that was checked in pieces, up to the bytes that count.
-use Rattle.std.proofs.Common.{◌≡◌, ℕ, ◌+◌, ◌≤◌, Bool, List, ◌++◌, length, take, drop, min, Option, Some, None, IfSome, IsTrue, refl, sym, ap, ◌∙◌, arith, option_map, subst, inl, inr}
+use Rattle.std.proofs.Common.{◌≡◌, ℕ, ◌+◌, ◌≤◌, Bool, false, List, ◌++◌, length, take, drop, min, Option, Some, None, IfSome, IsTrue, refl, sym, ap, ◌∙◌, arith, option_map, subst, inl, inr}
+use Rattle.std.specs.Option.{ForSome}
 use Rattle.std.proofs.lemmas.Bool.{cases_lt}
 use Rattle.std.proofs.lemmas.List.{take_all}
 use Rattle.std.proofs.Math.Seq.{take-add}
@@ -96,6 +97,10 @@ len_or_none : Option Passed → ℕ
 len_or_none None = 0
 len_or_none (Some p) = p.len
 
+old_or_not : Option Passed → Bool
+old_or_not None = false
+old_or_not (Some p) = p.old
+
 given_by : (passes : Option (List ℕ)) (old : Bool) (p : Passed) →
     Some p ≡ option_map (passed_of_area old) passes → IsGivenBy passes p.len
 unfolding passed_of_area len_or_none
@@ -119,6 +124,23 @@ front_fits form bytes left p laws e h =
           omega (arith, most, len, e);
       fits = subst (λ (area : List ℕ). IsTrue (form.fits area)) (sym whole) fits;
     }
+
+-- whether it is old
+given_age :
+    (passes : Option (List ℕ)) (old : Bool) (p : Passed) →
+    Some p ≡ option_map (passed_of_area old) passes → p.old ≡ old
+unfolding passed_of_area old_or_not
+given_age None old p e = absurd cc
+given_age (Some area) old p e = ap old_or_not e
+
+pub whole_age :
+    (form : Form) (candidate : Option (List ℕ)) (left : List ℕ) (answer : Option Passed) →
+    ((bytes : List ℕ) → candidate ≡ Some bytes → IsPassed form bytes left answer) →
+    IfSome answer (λ p. ForSome candidate (λ bytes. p.old ≡ form.aged bytes))
+unfolding passed_of_area
+whole_age form candidate left None passed = tt
+whole_age form candidate left (Some p) passed = λ bytes is.
+    given_age (form.passes bytes) (form.aged bytes) p (passed bytes is).is
 
 pub whole_fits : (form : Form) (bytes left : List ℕ) (answer : Option Passed) → IsForm form →
     length left ≡ form.area_len → IsPassed form bytes left answer →

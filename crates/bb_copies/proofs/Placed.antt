@@ -4,7 +4,7 @@ use Rattle.std.specs.Prelude.{slice_get}
 use Rattle.std.proofs.lemmas.Option.{slice_get_within}
 use Rattle.bb_bucket.specs.Kind.{Holding}
 use Rattle.bb_copies.specs.declared.settle.Settled.{Settled}
-use Rattle.bb_copies.specs.declared.settle.Settled.TheVariants.{Good, Dead, Stuck}
+use Rattle.bb_copies.specs.declared.settle.Settled.TheVariants.{Good, Aged, Dead, Stuck}
 use Rattle.bb_copies.specs.Placing.{AllPlaced, IsPlacedAt, PlacesCopy, PlacesUnmarked}
 use Rattle.bb_copies.specs.Refreshing.{repair_answer, is_marked}
 use Rattle.bb_copies.proofs.Below.{IsLeft}
@@ -27,6 +27,7 @@ set_places holding buckets copy new here = λ place before bucket e. elim (same_
 -- what holds of a copy that isn't stuck holds where its number isn't the answer
 pub answer_ok : (copy : ℕ) (settled : Settled) (P : Type 0) → (settled ≢ Stuck → P) → OnOk (repair_answer copy settled) P
 answer_ok copy Good P holds = holds (λ e. absurd cc)
+answer_ok copy Aged P holds = holds (λ e. absurd cc)
 answer_ok copy Dead P holds = holds (λ e. absurd cc)
 answer_ok copy Stuck P holds = tt
 

@@ -13,8 +13,9 @@ use Rattle.bb_bucket.specs.Calls.{range_of, told_but_reads}
 use Rattle.bb_bucket.specs.Kind.{BucketKind}
 use Rattle.bb_bucket.proofs.Runs.{quiet_calls}
 use Rattle.bb_copies.specs.Buckets.{IsApart}
+use Rattle.bb_copies.specs.Ages.{fresh}
 use Rattle.bb_copies.specs.Luck.{IsLucky}
-use Rattle.bb_copies.specs.Passing.{passing_of, passings}
+use Rattle.bb_copies.specs.Passing.{aged_passing_of, aged_passings}
 use Rattle.bb_copies.specs.Refreshing.{IsUntouched, Refreshes}
 use Rattle.bb_copies.specs.Settling.{NothingFails}
 use Rattle.bb_copies.specs.StandsFor.{IsKeptOrTaken, KeepsOrTakes}
@@ -27,15 +28,15 @@ use Rattle.bb_copies.proofs.OneCopy.{kept_joined}
 same_region : (page at size : ℕ) (before image : Image) → image ≡ before → IsSameRegion page at size before image
 same_region page at size before image e = subst (λ (i : Image). IsSameRegion page at size before i) (sym e) (record { bytes = refl; health = refl })
 
-pub kept_same : (form : Form) (page : ℕ) (kinds : List BucketKind) (area : List ℕ) (before image : Image) → image ≡ before → KeepsOrTakes area (passings form page kinds before) (passings form page kinds image)
-kept_same form page kinds area before image e = zip_kinds (IsKeptOrTaken area) (λ k. passing_of form page k before) (λ k. passing_of form page k image) kinds (λ copy kind f. inl (inl (ap (passing_of form page kind) e)))
+pub kept_same : (form : Form) (page : ℕ) (kinds : List BucketKind) (area : List ℕ) (before image : Image) → image ≡ before → KeepsOrTakes (fresh area) (aged_passings form page kinds before) (aged_passings form page kinds image)
+kept_same form page kinds area before image e = zip_kinds (IsKeptOrTaken (fresh area)) (λ k. aged_passing_of form page k before) (λ k. aged_passing_of form page k image) kinds (λ copy kind f. inl (inl (ap (aged_passing_of form page kind) e)))
 
 pub unchanged_refreshes : (form : Form) (kinds : List BucketKind) (area : List ℕ) (from to : Device) → EachImage (λ before image. image ≡ before) from to → IsLater from to → LeavesStarts from to → IsDevice to → Refreshes form kinds area from to
 unchanged_refreshes form kinds area from to same later starts whole = record {
   counted =
-      counted_of_images (IsLucky (passings form from.geometry.page kinds)) _ from to
+      counted_of_images (IsLucky (aged_passings form from.geometry.page kinds)) _ from to
       (images_weaker (λ before image. image ≡ before)
-      (λ before image. KeepsOrTakes area (passings form from.geometry.page kinds before) (passings form from.geometry.page kinds image)) from to
+      (λ before image. KeepsOrTakes (fresh area) (aged_passings form from.geometry.page kinds before) (aged_passings form from.geometry.page kinds image)) from to
       (kept_same form from.geometry.page kinds area) same);
   outside = λ region out. images_weaker (λ before image. image ≡ before) (IsSameRegion from.geometry.page region.at region.size) from to (same_region from.geometry.page region.at region.size) same;
   later = later;
@@ -91,12 +92,12 @@ pub refreshes_joined : (form : Form) (kinds : List BucketKind) (area : List ℕ)
 refreshes_joined form kinds area one two three h k =
     let page : ℕ = one.geometry.page in
     let same : two.geometry.page ≡ page = ap (λ geo. geo.page) h.later.geometry in
-    let kept : Image → Image → Type 0 = λ before image. KeepsOrTakes area (passings form page kinds before) (passings form page kinds image) in
-    let second : EachCounted (IsLucky (passings form page kinds)) kept two three = subst (λ (p : ℕ). EachCounted (IsLucky (passings form p kinds)) (λ before image. KeepsOrTakes area (passings form p kinds before) (passings form p kinds image)) two three) same k.counted in
+    let kept : Image → Image → Type 0 = λ before image. KeepsOrTakes (fresh area) (aged_passings form page kinds before) (aged_passings form page kinds image) in
+    let second : EachCounted (IsLucky (aged_passings form page kinds)) kept two three = subst (λ (p : ℕ). EachCounted (IsLucky (aged_passings form p kinds)) (λ before image. KeepsOrTakes (fresh area) (aged_passings form p kinds before) (aged_passings form p kinds image)) two three) same k.counted in
     record {
       counted =
-          counted_joined (IsLucky (passings form page kinds)) kept kept kept one two three (λ x y r. r)
-          (λ x y z r s. zip_joined (IsKeptOrTaken area) (kept_joined area) (passings form page kinds x) (passings form page kinds y) (passings form page kinds z) r s)
+          counted_joined (IsLucky (aged_passings form page kinds)) kept kept kept one two three (λ x y r. r)
+          (λ x y z r s. zip_joined (IsKeptOrTaken (fresh area)) (kept_joined (fresh area)) (aged_passings form page kinds x) (aged_passings form page kinds y) (aged_passings form page kinds z) r s)
           h.later k.later h.counted second;
       outside = λ region out.
           images_same_joined page region.at region.size one two three h.later k.later (h.outside region out)

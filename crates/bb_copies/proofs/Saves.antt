@@ -5,16 +5,18 @@ use Rattle.std.proofs.lemmas.Option.{slice_get_within}
 use Rattle.bb_base.specs.Form.{Form}
 use Rattle.bb_flash.specs.Device.{Device, IsDevice, content}
 use Rattle.bb_flash.specs.Image.{Image}
-use Rattle.bb_flash.proofs.Counting.{counted_both}
+use Rattle.bb_flash.proofs.Counting.{counted_both, counted_weaker}
 use Rattle.bb_flash.proofs.Moments.{images_weaker}
 use Rattle.bb_bucket.specs.Kind.{BucketKind}
 use Rattle.bb_copies.specs.declared.answers.CopyFault.{CopyFault}
+use Rattle.bb_copies.specs.Ages.{AgedArea, fresh}
 use Rattle.bb_copies.specs.Erasing.{ErasesBy, IsBounded}
 use Rattle.bb_copies.specs.Luck.{IsLucky}
-use Rattle.bb_copies.specs.Passing.{passing_of, passings}
+use Rattle.bb_copies.specs.Passing.{aged_passings, passing_of, passings}
 use Rattle.bb_copies.specs.Refreshing.{AllSettled, AllWritten, NoOther, Refreshes, area_if, is_marked}
-use Rattle.bb_copies.specs.Saving.{IsHopeless, IsSave, KeepsUsed, SaveImages, SaveRuns, SparesUsed, StandsLonger}
+use Rattle.bb_copies.specs.Saving.{IsHopeless, IsRenewed, IsSave, KeepsUsed, SaveAges, SaveImages, SaveRuns, SparesUsed, StandsLonger}
 use Rattle.bb_copies.specs.StandsFor.{KeepsOrTakes, SomeIsSpared, SomePasses}
+use Rattle.bb_copies.proofs.Ages.{keeps_areas, renewed_by}
 use Rattle.bb_copies.proofs.Erased.{none_marked}
 use Rattle.bb_copies.proofs.Held.{none_live}
 use Rattle.bb_copies.proofs.History.{save_during}
@@ -46,14 +48,24 @@ all_erases kinds rec marked from to none written =
 pub save_images : (form : Form) (kinds : List BucketKind) (used : Option ℕ) (area : List ℕ) (from to : Device) → Refreshes form kinds area from to → SparesUsed form kinds used from to → SaveImages form kinds used area from to
 save_images form kinds used area from to run spares =
     let passing : Image → List (Option (List ℕ)) = passings form from.geometry.page kinds in
-    counted_both (IsLucky passing) (λ before image. KeepsOrTakes area (passing before) (passing image)) (λ before image. KeepsUsed used (passing before) → SomeIsSpared (passing before) (passing image)) (λ before image. StandsLonger used area (passing before) (passing image)) from to
-    (λ before image takes spared keeps first h a marks stands. save_during first (passing before) h a marks area stands (passing image) takes (spared keeps))
+    let aged : Image → List (Option AgedArea) = aged_passings form from.geometry.page kinds in
+    counted_both (IsLucky aged) (λ before image. KeepsOrTakes (fresh area) (aged before) (aged image)) (λ before image. KeepsUsed used (passing before) → SomeIsSpared (passing before) (passing image)) (λ before image. StandsLonger used area (passing before) (passing image)) from to
+    (λ before image takes spared keeps first h a marks stands. save_during first (passing before) h a marks area stands (passing image) (keeps_areas form from.geometry.page kinds area before image takes) (spared keeps))
     run.counted spares
+
+save_ages : (form : Form) (kinds : List BucketKind) (area : List ℕ) (from to : Device) → Refreshes form kinds area from to → SaveAges form kinds area from to
+save_ages form kinds area from to run =
+    let passing : Image → List (Option (List ℕ)) = passings form from.geometry.page kinds in
+    let aged : Image → List (Option AgedArea) = aged_passings form from.geometry.page kinds in
+    counted_weaker (IsLucky aged) (λ before image. KeepsOrTakes (fresh area) (aged before) (aged image))
+    (λ before image. IsRenewed area (passing before) (passing image) (aged before) (aged image)) from to
+    (renewed_by form from.geometry.page kinds area) run.counted
 
 pub save_runs : (form : Form) (kinds : List BucketKind) (used : Option ℕ) (area : List ℕ) (from to : Device) → Refreshes form kinds area from to → SparesUsed form kinds used from to → IsBounded kinds (form.text area) from to → SaveRuns form kinds used area from to
 save_runs form kinds used area from to run spares bounded = record {
   bounded = bounded;
   images = save_images form kinds used area from to run spares;
+  ages = save_ages form kinds area from to run;
   outside = run.outside;
   later = run.later;
   starts = run.starts;

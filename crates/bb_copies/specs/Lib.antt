@@ -7,6 +7,7 @@ pub use Rattle.bb_flash.specs.Cuts
 pub use Rattle.bb_flash.specs.Device
 pub use Rattle.bb_flash.specs.Image
 pub use Rattle.bb_bucket.specs.Kind
+pub mod Ages
 pub mod Buckets
 pub mod Chronicle
 pub mod Cutting

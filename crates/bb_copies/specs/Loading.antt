@@ -17,11 +17,12 @@ use Rattle.bb_copies.specs.declared.answers.CopyFault.{CopyFault}
 use Rattle.bb_copies.specs.declared.answers.CopyFault.TheVariants.{ReadFault, WriteFault, Unsure}
 use Rattle.bb_copies.specs.declared.answers.Loaded.{Loaded}
 use Rattle.bb_copies.specs.declared.answers.Loaded.TheVariants.{Copy, NoCopy}
+use Rattle.bb_copies.specs.Ages.{count_old}
 use Rattle.bb_copies.specs.Buckets.{EachCopy, IsOutside}
 use Rattle.bb_copies.specs.Erasing.{ErasesBy, IsBounded, unmarked_kinds}
 use Rattle.bb_copies.specs.Looking.{IsFresh}
 use Rattle.bb_copies.specs.Luck.{IsLucky}
-use Rattle.bb_copies.specs.Passing.{passes_at, passings}
+use Rattle.bb_copies.specs.Passing.{aged_passings, passes_at, passings}
 use Rattle.bb_copies.specs.Refreshing.{IsStuckAt, KeepsMarked, is_marked}
 use Rattle.bb_copies.specs.Settling.{NothingFails, RoseBy}
 use Rattle.bb_copies.specs.StandsFor.{EachPassesOrNothing, SomePasses, Stands, StandsFor}
@@ -37,7 +38,7 @@ StandsStill before image =
 abbrev pub LoadImages : Form → List BucketKind → Device → Device → Type 0
 LoadImages form kinds from to =
     let passing = passings form from.geometry.page kinds in
-    EachCounted (IsLucky passing)
+    EachCounted (IsLucky (aged_passings form from.geometry.page kinds))
     (λ before image. StandsStill (passing before) (passing image)) from to
 
 -- in every image what lies outside the copies is as before, and so are the pages in which it stands
@@ -120,8 +121,8 @@ LoadFails form kinds from to ReadFault = IsReadFault from to
 LoadFails form kinds from to (WriteFault copy) = IsLoadStuck form kinds copy from to
 LoadFails form kinds from to Unsure = ⊥
 
--- a region is as before where its copy passed the area from a record without a Worn page, else as
--- after a write
+-- a region is as before where its copy passed the area, not as an old one alone, from a record
+-- without a Worn page; else it is as after a write
 pub record IsExact (form : Form) (page : ℕ) (kind : BucketKind) (area : List ℕ)
     (before after : Image) : Type 0 where
   pub fresh :
@@ -182,16 +183,27 @@ abbrev pub SaysWithin : ℕ → Loaded → Type 0
 SaysWithin count (Copy used live len old) = len ≤ count
 SaysWithin count NoCopy = Unit {0}
 
--- the length that a load says is that of the stored area, which fits; no format of today has old
--- areas
-pub record SaysLength (form : Form) (stored : List ℕ) (said aged : ℕ) : Type 0 where
+-- the length that a load says is that of the stored area, which fits
+pub record SaysLength (form : Form) (stored : List ℕ) (said : ℕ) : Type 0 where
   pub len : length stored ≡ said
-  pub old : aged ≡ 0
   pub fits : IsTrue (form.fits stored)
 
 abbrev pub LoadSays : Form → List ℕ → Loaded → Type 0
-LoadSays form stored (Copy used live len old) = SaysLength form stored len old
+LoadSays form stored (Copy used live len old) = SaysLength form stored len
 LoadSays form stored NoCopy = stored ≡ []
+
+-- so many copies pass as an old area alone, and a call failed for each
+pub record CountsOld (form : Form) (kinds : List BucketKind) (old : ℕ) (from to : Device)
+    : Type 0 where
+  pub counted :
+      ForSome (content to)
+      (λ image. old ≡ count_old (aged_passings form from.geometry.page kinds image))
+  pub rose : RoseBy old from.faults to.faults
+
+-- a load counts them once all copies are settled
+abbrev pub LoadAges : Form → List BucketKind → Device → Device → Loaded → Type 0
+LoadAges form kinds from to (Copy used live len old) = CountsOld form kinds old from to
+LoadAges form kinds from to NoCopy = Unit {0}
 
 -- A load: what it made of the device, and what it answered. `stored` is the area that it gave, as
 -- long as it is stored.
@@ -200,6 +212,7 @@ pub record IsLoad (form : Form) (kinds : List BucketKind) (stored : List ℕ) (f
   pub runs : LoadRuns form kinds from to
   pub gives : IfOk answer (LoadGives form kinds stored from to)
   pub says : IfOk answer (LoadSays form stored)
+  pub ages : IfOk answer (LoadAges form kinds from to)
   pub exact : IfOk answer (LoadsExactly form kinds stored from to)
   pub erases : IfOk answer (LoadsErasing form kinds stored from to)
   pub fails : IfErr answer (LoadFails form kinds from to)

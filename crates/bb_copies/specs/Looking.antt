@@ -1,21 +1,23 @@
 -- What reading all copies gives.
 use Rattle.std.specs.Prelude.{◌≡◌, ℕ, ◌<◌, ◌&&◌, Bool, false, not, List, [], Option, Some, None}
-use Rattle.std.specs.Prelude.{take}
+use Rattle.std.specs.Prelude.{IfSome, take}
 use Rattle.std.specs.Bool.{Decides}
 use Rattle.std.specs.Str.{bytes_eq}
 use Rattle.bb_base.specs.Form.{Form}
 use Rattle.bb_flash.specs.Image.{Image}
 use Rattle.bb_bucket.specs.Kind.{BucketKind, part_of}
+use Rattle.bb_copies.specs.Ages.{is_old}
 use Rattle.bb_copies.specs.declared.look.FirstCopy.{FirstCopy}
 use Rattle.bb_copies.specs.declared.read.PassingCopy.{PassingCopy}
 use Rattle.bb_copies.specs.Buckets.{EachCopy}
-use Rattle.bb_copies.specs.Passing.{IsReading, passing_of}
+use Rattle.bb_copies.specs.Passing.{IsReading, aged_passing_of, passing_of}
 use Rattle.bb_copies.specs.Refreshing.{is_marked}
 
--- a copy passes the area, and no page of its record is Worn
+-- a copy passes the area, and not as an old one alone, and no page of its record is Worn
 pub record IsFresh (form : Form) (page : ℕ) (kind : BucketKind) (area : List ℕ)
     (image : Image) : Type 0 where
   pub passes : passing_of form page kind image ≡ Some area
+  pub young : is_old (aged_passing_of form page kind image) ≡ false
   pub sound : kind.is_worn (part_of page kind.region image) ≡ false
 
 -- the copy of this number is the first of those below `bound` that passes, as this area, and the
@@ -67,7 +69,8 @@ area_by found None area None = area
 
 -- whether the copy is fresh
 abbrev pub good_by : List ℕ → Option PassingCopy → List ℕ → Bool
-good_by found (Some passed) area = not passed.worn && bytes_eq (take passed.len found) area
+good_by found (Some passed) area =
+    not passed.worn && not passed.old && bytes_eq (take passed.len found) area
 good_by found None area = false
 
 -- The first copy that passes, and the memory in front of which its area stands, once the copy of a
@@ -76,7 +79,7 @@ abbrev pub IsFirstNow : ℕ → List ℕ → Option PassingCopy → List ℕ →
     Option FirstCopy → Type 0
 IsFirstNow copy found passed old new (Some first) now = (now ≡ Some first) × (new ≡ old)
 IsFirstNow copy found (Some passed) old new None now =
-    (now ≡ Some (record { copy = copy; len = passed.len }))
+    (now ≡ Some (record { copy = copy; len = passed.len; old = passed.old }))
     × (take passed.len new ≡ take passed.len found)
 IsFirstNow copy found None old new None now = (now ≡ None) × (new ≡ old)
 
@@ -84,3 +87,11 @@ IsFirstNow copy found None old new None now = (now ≡ None) × (new ≡ old)
 abbrev pub IsReadAt : Form → ℕ → List BucketKind → ℕ → Image → List ℕ → Option PassingCopy → Type 0
 IsReadAt form page kinds copy image out passed =
     EachCopy kinds (λ place kind. place ≡ copy → IsReading form page kind image out passed)
+
+-- the first copy that passes does so as an old one alone, or it doesn't, as it was found
+abbrev pub FirstAges : Form → ℕ → List BucketKind → Image → Option FirstCopy → Type 0
+FirstAges form page kinds image used =
+    IfSome used
+    (λ first.
+    EachCopy kinds
+    (λ copy kind. copy ≡ first.copy → is_old (aged_passing_of form page kind image) ≡ first.old))

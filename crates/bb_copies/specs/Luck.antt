@@ -4,8 +4,9 @@ use Rattle.bb_flash.specs.Device.{Change}
 use Rattle.bb_flash.specs.Image.{Image}
 use Rattle.bb_copies.specs.Passing.{passes_at}
 
--- Some copy passes in the image an area that it passes neither in what the call began from nor in
--- what it leaves where it answers Ok. `passing` says what each copy passes as in an image.
+-- Some copy passes in the image as it passes neither in what the call began from nor in what it
+-- leaves where it answers Ok. `passing` says what each copy passes as in an image: an area, and
+-- whether it is old.
 pub record IsLucky {A : Type 0} (passing : Image → List (Option A)) (change : Change)
     (image : Image) : Type 0 where
   pub copy : ℕ

@@ -1,6 +1,7 @@
 -- What it makes of a device to settle the copies one after another.
 use Rattle.std.specs.Prelude.{◌≡◌, ◌≢◌, ◌⊎◌, ℕ, ◌<◌, Bool, true, false, not, List, [], ◌∷◌, length, count_by}
-use Rattle.std.specs.Prelude.{slice_index_or, Option, Some, None, Result, Ok, Err, if◌then◌else◌}
+use Rattle.std.specs.Prelude.{set, slice_index_or, Option, Some, None, Result, Ok, Err}
+use Rattle.std.specs.Prelude.{if◌then◌else◌}
 use Rattle.std.specs.Option.{ForSome}
 use Rattle.bb_base.specs.Faults.{Rose, one_more}
 use Rattle.bb_base.specs.Form.{Form}
@@ -11,24 +12,25 @@ use Rattle.bb_flash.specs.Device.{Device, IsDevice, LeavesStarts, content}
 use Rattle.bb_bucket.specs.Calls.{EachCall, Leaves, range_of}
 use Rattle.bb_bucket.specs.Kind.{BucketKind}
 use Rattle.bb_copies.specs.declared.settle.Settled.{Settled}
-use Rattle.bb_copies.specs.declared.settle.Settled.TheVariants.{Good, Dead, Stuck}
+use Rattle.bb_copies.specs.declared.settle.Settled.TheVariants.{Good, Aged, Dead, Stuck}
+use Rattle.bb_copies.specs.Ages.{fresh}
 use Rattle.bb_copies.specs.Buckets.{EachCopy, IsApart, IsOutside}
 use Rattle.bb_copies.specs.Erasing.{ErasesBy, IsBoundedInSum, unmarked_kinds}
 use Rattle.bb_copies.specs.Luck.{IsLucky}
-use Rattle.bb_copies.specs.Passing.{passing_of, passings}
-use Rattle.bb_copies.specs.Settling.{IsStale, IsRepairWritten, IsUnread, RoseBy}
+use Rattle.bb_copies.specs.Passing.{aged_passings, passing_of, passings}
+use Rattle.bb_copies.specs.Settling.{IsAged, IsRepairWritten, IsStale, IsUnread, RoseBy}
 use Rattle.bb_copies.specs.StandsFor.{KeepsOrTakes, SomePasses}
 
 -- In every image what lies outside the copies is as before. In each that counts each copy passes
--- what it passed before, nothing, or the area.
+-- what it passed before, nothing, or the area, which then isn't old.
 pub record Refreshes (form : Form) (kinds : List BucketKind) (area : List ℕ)
     (from to : Device) : Type 0 where
   pub counted :
       EachCounted
-      (IsLucky (passings form from.geometry.page kinds))
+      (IsLucky (aged_passings form from.geometry.page kinds))
       (λ before image.
-      KeepsOrTakes area (passings form from.geometry.page kinds before)
-      (passings form from.geometry.page kinds image))
+      KeepsOrTakes (fresh area) (aged_passings form from.geometry.page kinds before)
+      (aged_passings form from.geometry.page kinds image))
       from
       to
   pub outside :
@@ -129,9 +131,59 @@ abbrev pub IsWrittenAt : List BucketKind → ℕ → List ℕ → Device → Dev
 IsWrittenAt kinds copy rec from to =
     EachCopy kinds (λ place kind. place ≡ copy → IsRepairWritten kind rec from to)
 
+-- ---- which copies are old
+
+-- What the marks of age say once the copy of this number was settled, which is good or not. It
+-- alone is marked anew, where it passes as an old area alone. Then it is good, and a call failed.
+pub record MarksAge (form : Form) (kinds : List BucketKind) (copy : ℕ) (before after : List Bool)
+    (from to : Device) (good : Bool) : Type 0 where
+  pub old : Bool
+  pub marks : after ≡ set before copy old
+  pub here : EachCopy kinds (λ place kind. place ≡ copy → IsAged form kind old from to)
+  pub kept : old ≡ true → good ≡ true
+  pub cause : old ≡ true → Rose from.faults to.faults
+
+-- how many copies are marked
+abbrev pub count_marked : List Bool → ℕ
+count_marked marked = count_by (λ mark. mark) marked
+
+-- no copy is marked
+abbrev pub NoneMarked : List Bool → Type 0
+NoneMarked marked = (copy : ℕ) → is_marked marked copy ≡ false
+
+-- Each copy that wasn't marked before it was settled has its mark of age, and no other has one. A
+-- call failed for each that has one.
+pub record AllAged (form : Form) (kinds : List BucketKind) (marked good aged : List Bool)
+    (from to : Device) : Type 0 where
+  pub each :
+      EachCopy kinds
+      (λ copy kind. is_marked marked copy ≡ false → IsAged form kind (is_marked aged copy) from to)
+  pub left : (copy : ℕ) → is_marked marked copy ≡ true → is_marked aged copy ≡ false
+  pub kept : (copy : ℕ) → is_marked aged copy ≡ true → is_marked good copy ≡ true
+  pub rose : RoseBy (count_marked aged) from.faults to.faults
+
+-- the marked copies don't pass as old ones, and the last one does or doesn't; no copy has a mark of
+-- age yet
+pub record KnowsAges (form : Form) (kinds : List BucketKind) (marked aged : List Bool) (last : ℕ)
+    (old : Bool) (device : Device) : Type 0 where
+  pub unaged : NoneMarked aged
+  pub others :
+      EachCopy kinds
+      (λ copy kind. is_marked marked copy ≡ true → IsAged form kind false device device)
+  pub here : EachCopy kinds (λ copy kind. copy ≡ last → IsAged form kind old device device)
+
+-- every copy has its mark of age, and a call failed for each that is old
+pub record AllDated (form : Form) (kinds : List BucketKind) (aged : List Bool)
+    (from to : Device) : Type 0 where
+  pub each : EachCopy kinds (λ copy kind. IsAged form kind (is_marked aged copy) from to)
+  pub rose : RoseBy (count_marked aged) from.faults to.faults
+
+-- ---- what is answered
+
 -- what settling the copy of a number answers
 abbrev pub repair_answer : ℕ → Settled → Result Bool ℕ
 repair_answer copy Good = Ok true
+repair_answer copy Aged = Ok true
 repair_answer copy Dead = Ok false
 repair_answer copy Stuck = Err copy
 

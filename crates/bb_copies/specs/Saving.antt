@@ -10,14 +10,16 @@ use Rattle.bb_bucket.specs.Calls.{Leaves}
 use Rattle.bb_bucket.specs.Kind.{BucketKind}
 use Rattle.bb_copies.specs.declared.answers.CopyFault.{CopyFault}
 use Rattle.bb_copies.specs.declared.answers.CopyFault.TheVariants.{ReadFault, WriteFault, Unsure}
+use Rattle.bb_copies.specs.Ages.{AgedArea, NoneIsOld}
 use Rattle.bb_copies.specs.Buckets.{EachCopy}
 use Rattle.bb_copies.specs.Erasing.{ErasesBy, IsBounded}
 use Rattle.bb_copies.specs.Loading.{IsAllKept, KeepsOutside}
 use Rattle.bb_copies.specs.Luck.{IsLucky}
-use Rattle.bb_copies.specs.Passing.{passes_at, passing_of, passings}
+use Rattle.bb_copies.specs.Passing.{aged_passings, passes_at, passing_of, passings}
 use Rattle.bb_copies.specs.Refreshing.{AllHeld, IsStuckAt, IsUntouched}
 use Rattle.bb_copies.specs.Settling.{NothingFails, RoseBy}
-use Rattle.bb_copies.specs.StandsFor.{SomeIsSpared, SomePasses, Stands, StandsFor}
+use Rattle.bb_copies.specs.StandsFor.{EachPassesOrNothing, NonePasses, SomeIsSpared, SomePasses}
+use Rattle.bb_copies.specs.StandsFor.{Stands, StandsFor}
 
 -- the copy that is used passes, or none passes where none is used
 abbrev pub KeepsUsed : Option ℕ → List (Option (List ℕ)) → Type 0
@@ -37,8 +39,24 @@ StandsLonger used area before image =
 abbrev pub SaveImages : Form → List BucketKind → Option ℕ → List ℕ → Device → Device → Type 0
 SaveImages form kinds used area from to =
     let passing = passings form from.geometry.page kinds in
-    EachCounted (IsLucky passing)
+    EachCounted (IsLucky (aged_passings form from.geometry.page kinds))
     (λ before image. StandsLonger used area (passing before) (passing image)) from to
+
+-- What a save makes of old copies. Where none was old none is. Where none passed the area, none is
+-- old once each copy passes it or nothing, as after a save that answered Ok.
+pub record IsRenewed (area : List ℕ) (passed now : List (Option (List ℕ)))
+    (before image : List (Option AgedArea)) : Type 0 where
+  pub stays : NoneIsOld before → NoneIsOld image
+  pub renewed : NonePasses area passed → EachPassesOrNothing area now → NoneIsOld image
+
+-- so it is in each image of a save that counts
+abbrev pub SaveAges : Form → List BucketKind → List ℕ → Device → Device → Type 0
+SaveAges form kinds area from to =
+    let passing = passings form from.geometry.page kinds in
+    let aged = aged_passings form from.geometry.page kinds in
+    EachCounted (IsLucky aged)
+    (λ before image. IsRenewed area (passing before) (passing image) (aged before) (aged image))
+    from to
 
 -- where the used copy passes, some copy passes in every image
 abbrev pub SparesUsed : Form → List BucketKind → Option ℕ → Device → Device → Type 0
@@ -95,6 +113,7 @@ EachWritten kinds rec from to =
 pub record SaveRuns (form : Form) (kinds : List BucketKind) (used : Option ℕ) (area : List ℕ)
     (from to : Device) : Type 0 where
   pub images : SaveImages form kinds used area from to
+  pub ages : SaveAges form kinds area from to
   pub bounded : IsBounded kinds (form.text area) from to
   pub outside : KeepsOutside kinds from to
   pub later : IsLater from to

@@ -1,6 +1,6 @@
 -- What settling one copy makes of a device: calls that are to make it pass an area, or nothing.
-use Rattle.std.specs.Prelude.{◌≡◌, ◌≢◌, ◌⊎◌, ℕ, ◌+◌, ◌-◌, ◌^◌, ◌≤◌, min, List, [], ◌∷◌, Option}
-use Rattle.std.specs.Prelude.{Some, None}
+use Rattle.std.specs.Prelude.{◌≡◌, ◌≢◌, ◌⊎◌, ℕ, ◌+◌, ◌-◌, ◌^◌, ◌≤◌, min, Bool, true, false, List}
+use Rattle.std.specs.Prelude.{[], ◌∷◌, Option, Some, None}
 use Rattle.std.specs.Option.{ForSome}
 use Rattle.bb_base.specs.Faults.{Rose, one_more}
 use Rattle.bb_base.specs.Form.{Form}
@@ -10,9 +10,10 @@ use Rattle.bb_flash.specs.Device.{Device, IsDevice, LeavesStarts, content, momen
 use Rattle.bb_bucket.specs.Calls.{EachCall, ErasesWhere, IsWithin, Leaves, calls_of_write}
 use Rattle.bb_bucket.specs.Kind.{BucketKind, part_of}
 use Rattle.bb_copies.specs.declared.settle.Settled.{Settled}
-use Rattle.bb_copies.specs.declared.settle.Settled.TheVariants.{Good, Dead, Stuck}
+use Rattle.bb_copies.specs.declared.settle.Settled.TheVariants.{Good, Aged, Dead, Stuck}
+use Rattle.bb_copies.specs.Ages.{fresh, is_old}
 use Rattle.bb_copies.specs.Luck.{IsLucky}
-use Rattle.bb_copies.specs.Passing.{passing_of, passings}
+use Rattle.bb_copies.specs.Passing.{aged_passing_of, aged_passings, passing_of}
 use Rattle.bb_copies.specs.StandsFor.{IsKeptOrTaken}
 
 -- the count rose by this much at least, or it can't rise any more
@@ -23,16 +24,16 @@ RoseBy rise before now = min (before + rise) (2 ^ 64 - 1) ≤ now
 abbrev pub NothingFails : Device → Device → Type 0
 NothingFails from to = Rose from.faults to.faults → ⊥
 
--- In each image that counts the copy passes what it passed before, nothing, or the area. Its region
--- alone changed, in every image, and each call touched it alone.
+-- In each image that counts the copy passes what it passed before, nothing, or the area, which then
+-- isn't old. Its region alone changed, in every image, and each call touched it alone.
 pub record SettlesCopy (form : Form) (kind : BucketKind) (area : List ℕ)
     (from to : Device) : Type 0 where
   pub counted :
       EachCounted
-      (IsLucky (passings form from.geometry.page (kind ∷ [])))
+      (IsLucky (aged_passings form from.geometry.page (kind ∷ [])))
       (λ before image.
-      IsKeptOrTaken area (passing_of form from.geometry.page kind before)
-      (passing_of form from.geometry.page kind image))
+      IsKeptOrTaken (fresh area) (aged_passing_of form from.geometry.page kind before)
+      (aged_passing_of form from.geometry.page kind image))
       from
       to
   pub torn : EachTorn kind.region.at kind.region.size from to
@@ -74,8 +75,22 @@ pub record IsUnread (from to : Device) : Type 0 where
 -- how a copy ends that was to be settled
 abbrev pub EndsAs : Form → BucketKind → List ℕ → Device → Device → Settled → Type 0
 EndsAs form kind area from to Good = IsGood form kind area from to
+EndsAs form kind area from to Aged = IsGood form kind area from to
 EndsAs form kind area from to Dead = IsDead form kind from to
 EndsAs form kind area from to Stuck = IsStale form kind area from to ⊎ IsUnread from to
+
+-- it passes as an old area alone, or it doesn't
+abbrev pub IsAged : Form → BucketKind → Bool → Device → Device → Type 0
+IsAged form kind old from to =
+    ForSome (content to)
+    (λ image. is_old (aged_passing_of form from.geometry.page kind image) ≡ old)
+
+-- which of both a copy that was settled does, where it isn't stuck
+abbrev pub ends_old : Settled → Bool
+ends_old Good = false
+ends_old Aged = true
+ends_old Dead = false
+ends_old Stuck = false
 
 -- the record was written to the copy by one write in which no call failed, and nothing else was
 -- done
@@ -110,15 +125,18 @@ pub record FailsAll (from to : Device) : Type 0 where
   pub read_faults : to.read_faults ≡ one_more from.read_faults
 
 -- which calls failed, by how the copy ended: none, and it was written and nothing else was done; or
--- the write, or the write and the void, or these and the reading back
+-- the write, or the write and the void, or these and the reading back; a copy that still passes as
+-- an old one was neither written nor voided
 abbrev pub CountsAs : BucketKind → List ℕ → Device → Device → Settled → Type 0
 CountsAs kind rec from to Good = IsRepairWritten kind rec from to ⊎ FailsBy twice_more from to
+CountsAs kind rec from to Aged = FailsBy twice_more from to
 CountsAs kind rec from to Dead = FailsBy one_more from to ⊎ FailsBy twice_more from to
 CountsAs kind rec from to Stuck = FailsBy twice_more from to ⊎ FailsAll from to
 
 -- whether a copy could be read back, and whether the calls that read it failed
 abbrev pub ReadsOnce : Device → Device → Settled → Type 0
 ReadsOnce from to Good = (to.faults ≡ from.faults) × (to.read_faults ≡ from.read_faults)
+ReadsOnce from to Aged = (to.faults ≡ from.faults) × (to.read_faults ≡ from.read_faults)
 ReadsOnce from to Dead = (to.faults ≡ from.faults) × (to.read_faults ≡ from.read_faults)
 ReadsOnce from to Stuck =
     ((to.faults ≡ from.faults) × (to.read_faults ≡ from.read_faults))
@@ -127,6 +145,7 @@ ReadsOnce from to Stuck =
 -- what a copy passes as that is read back: the area, nothing, or another area; or it can't be read
 abbrev pub ReadsAs : Form → BucketKind → List ℕ → Device → Device → Settled → Type 0
 ReadsAs form kind area from to Good = IsGood form kind area from to
+ReadsAs form kind area from to Aged = IsGood form kind area from to
 ReadsAs form kind area from to Dead =
     ForSome (content to) (λ image. passing_of form from.geometry.page kind image ≡ None)
 ReadsAs form kind area from to Stuck =
@@ -134,8 +153,9 @@ ReadsAs form kind area from to Stuck =
     (λ image. PassesAnother area (passing_of form from.geometry.page kind image))
     ⊎ (Rose from.faults to.faults × Rose from.read_faults to.read_faults)
 
--- two areas are one, or they are two
-abbrev pub IsCompared : List ℕ → List ℕ → Settled → Type 0
-IsCompared passed wanted Good = passed ≡ wanted
-IsCompared passed wanted Dead = ⊥
-IsCompared passed wanted Stuck = passed ≢ wanted
+-- two areas are one, which was found old or not, or they are two
+abbrev pub IsCompared : List ℕ → Bool → List ℕ → Settled → Type 0
+IsCompared passed old wanted Good = (passed ≡ wanted) × (old ≡ false)
+IsCompared passed old wanted Aged = (passed ≡ wanted) × (old ≡ true)
+IsCompared passed old wanted Dead = ⊥
+IsCompared passed old wanted Stuck = passed ≢ wanted

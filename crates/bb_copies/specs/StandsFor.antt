@@ -2,8 +2,8 @@
 -- acknowledged. A content is seen as the list of what its copies pass, in their order: an area, or
 -- none. What keeps and what decays is said of whatever a copy passes as, the type A. No device,
 -- bucket or format is named here.
-use Rattle.std.specs.Prelude.{◌≡◌, ◌⊎◌, ℕ, ◌<◌, ◌≤◌, List, [], ◌∷◌, length, All, slice_get, Option}
-use Rattle.std.specs.Prelude.{Some, None, is_some, IsTrue}
+use Rattle.std.specs.Prelude.{◌≡◌, ◌≢◌, ◌⊎◌, ℕ, ◌<◌, ◌≤◌, List, [], ◌∷◌, length, All, slice_get}
+use Rattle.std.specs.Prelude.{Option, Some, None, is_some, IsTrue}
 use Rattle.std.specs.List.{AllZip, list_any}
 
 -- ---- what the copies pass
@@ -11,6 +11,10 @@ use Rattle.std.specs.List.{AllZip, list_any}
 -- some copy passes an area
 abbrev pub SomePasses : {A : Type 0} → List (Option A) → Type 0
 SomePasses passed = IsTrue (list_any is_some passed)
+
+-- no copy passes the area
+abbrev pub NonePasses : {A : Type 0} → A → List (Option A) → Type 0
+NonePasses area passed = All (λ passes. passes ≢ Some area) passed
 
 -- the area of the first copy that passes; `first` stands for a device where none does
 abbrev pub first_passed : {A : Type 0} → A → List (Option A) → A

@@ -28,16 +28,18 @@ pub record HoldsRecords (form : Form) (kinds : List BucketKind) (most rec : ℕ)
   pub found : FindsAtMost form rec kinds
 
 -- what always holds of copies that are mounted, in which areas of `most` bytes are saved: `marks`
--- of them may be marked, `rec` bytes are at hand for a record, and `memory` to read copies into;
--- `placed` says that where they are sure, their buckets know where a record goes
+-- of them may be marked, and `ages` as old ones, `rec` bytes are at hand for a record, and `memory`
+-- to read copies into; `placed` says that where they are sure, their buckets know where a record
+-- goes
 pub record IsMounted (form : Form) (kinds : List BucketKind) (most : ℕ) (used : Option ℕ)
-    (marks rec : ℕ) (memory : Room) (placed : Type 0) : Type 0 where
+    (marks ages rec : ℕ) (memory : Room) (placed : Type 0) : Type 0 where
   pub room : HaveRoom (form.length_of most) kinds
   pub exchange : TakeEachOther form kinds
   pub many : 2 ≤ length kinds
   pub few : length kinds ≤ most_copies
   pub inside : IfSome used (λ copy. copy < length kinds)
   pub marked : marks ≡ length kinds
+  pub dated : ages ≡ length kinds
   pub record_fits : HoldsRecords form kinds most rec
   pub at_hand : HasMemory form memory
   pub places : placed

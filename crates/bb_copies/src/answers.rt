@@ -2,8 +2,8 @@
 #[derive(Clone, Copy, Debug, PartialEq, Eq)]
 pub enum Loaded {
     /// An area of `len` bytes. `used` is the first copy that passes it now, counted from 0, and
-    /// `live` the number of those that do. `old` is how many passed as an old area alone, which no
-    /// format of today has.
+    /// `live` the number of those that do. `old` is how many of these still pass it as an old area
+    /// alone, since they couldn't be written anew: that many calls failed at least.
     Copy {
         used: u32,
         live: u32,

@@ -37,6 +37,8 @@ pub struct Copies<B: Bucket + Drop, M: Format + Drop> {
     room: Room,
     // which copies are fresh, and then which are good
     good: Vec<bool>,
+    // which of these pass as an old area alone
+    aged: Vec<bool>,
     used: Option<usize>,
     sure: bool,
 }
@@ -59,7 +61,8 @@ impl<B: Bucket + Drop, M: Format + Drop> Model for Copies<B, M> {
 
     ghost invariant = { λ copies.
         IsMounted (M.form copies.format) (kinds_of B.holding copies.buckets.items) copies.most
-        copies.used (length copies.good.items) (length copies.rec.items) copies.room
+        copies.used (length copies.good.items) (length copies.aged.items)
+        (length copies.rec.items) copies.room
         (copies.sure ≡ true → AllPlaced B.holding copies.buckets.items) };
 }
 
@@ -89,6 +92,7 @@ impl<B: Bucket + Drop, M: Format + Drop> Copies<B, M> {
         let piece = vec![in alloc; 0u8; PIECE_LEN.min(rec.len()).max(1)]?;
         let area = vec![in alloc; 0u8; format.area_len()]?;
         let good = vec![in alloc; false; buckets.len()]?;
+        let aged = vec![in alloc; false; buckets.len()]?;
         Ok(Copies {
             buckets,
             format,
@@ -96,6 +100,7 @@ impl<B: Bucket + Drop, M: Format + Drop> Copies<B, M> {
             rec,
             room: Room { piece, area },
             good,
+            aged,
             used: None,
             sure: false,
         })
@@ -109,9 +114,10 @@ impl<B: Bucket + Drop, M: Format + Drop> Copies<B, M> {
     }
 
     /// Reads all copies, takes the area of the first that passes, of whatever length, which is then
-    /// in front of `area`, and makes the others pass it too: each that doesn't, or has a Worn page,
-    /// is written; where that fails it is voided. The used copy is written anew only where it is
-    /// worn and another is good. `area` has as many bytes as the format's longest.
+    /// in front of `area`, and makes the others pass it too: each that doesn't, that does as an old
+    /// one alone, or has a Worn page, is written; where that fails it is voided. The used copy is
+    /// written anew only where it is old or worn and another is good. `area` has as many bytes as
+    /// the format's longest.
     pub fn load<F: Flash>(&mut self, flash: &mut F, area: &mut [u8]) -> Result<Loaded, CopyFault>
         requires serves { AllServe (kinds_of B.holding self.old.buckets)
             (F.device flash.old).geometry }
@@ -133,6 +139,7 @@ impl<B: Bucket + Drop, M: Format + Drop> Copies<B, M> {
         let loaded = load_copies(
             &mut self.buckets,
             &mut self.good,
+            &mut self.aged,
             &self.format,
             flash,
             area,
@@ -179,6 +186,7 @@ impl<B: Bucket + Drop, M: Format + Drop> Copies<B, M> {
         let taken = save_copies(
             &mut self.buckets,
             &mut self.good,
+            &mut self.aged,
             self.used,
             &self.format,
             flash,

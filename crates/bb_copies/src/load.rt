@@ -10,17 +10,19 @@ ghost use Rattle.bb_copies.specs.Store.{used_after};
 use crate::look::look_over;
 use crate::refresh::settle_all;
 use crate::room::Room;
-use crate::tally::tell;
+use crate::tally::{clear, count_marked, tell};
 use crate::{CopyFault, Loaded};
 use bb_base::Format;
 use bb_bucket::Bucket;
 use bb_flash::Flash;
 
 /// Reads all copies, takes the area of the first that passes, which is then in front of `area`, and
-/// makes the others pass it too, as long as it is.
+/// makes the others pass it too, as long as it is. Those that pass it as an old one alone are
+/// written anew, and counted where they can't be.
 pub(crate) fn load_copies<B: Bucket, M: Format, F: Flash>(
     buckets: &mut Vec<B>,
     good: &mut Vec<bool>,
+    aged: &mut Vec<bool>,
     format: &M,
     flash: &mut F,
     area: &mut [u8],
@@ -33,6 +35,7 @@ pub(crate) fn load_copies<B: Bucket, M: Format, F: Flash>(
     requires agreed { AllAgree B.holding (F.device flash.old) buckets.old.items }
     requires whole { IsDevice (F.device flash.old) }
     requires marks { length good.old.items ≡ length buckets.old.items }
+    requires ages { length aged.old.items ≡ length buckets.old.items }
     requires record { FindsAtMost (M.form format.now) (length rec.old.items)
         (kinds_of B.holding buckets.old.items) }
     requires memory { HasMemory (M.form format.now) room.old }
@@ -46,6 +49,7 @@ pub(crate) fn load_copies<B: Bucket, M: Format, F: Flash>(
     ensures agrees { AllAgree B.holding (F.device flash.new) buckets.new.items }
     ensures placed { OnOk result (AllPlaced B.holding buckets.new.items) }
     ensures marks { length good.new.items ≡ length good.old.items }
+    ensures ages { length aged.new.items ≡ length aged.old.items }
     ensures record { length rec.new.items ≡ length rec.old.items }
     ensures memory { HasMemory (M.form format.now) room.new }
 {
@@ -59,8 +63,9 @@ pub(crate) fn load_copies<B: Bucket, M: Format, F: Flash>(
     let stored = &area[..first.len];
     let count = pack(format, stored, rec);
     let packed = front(rec, count);
+    clear(aged);
     match settle_all(
-        buckets, good, first.copy, format, flash, stored, packed, room,
+        buckets, good, aged, first.copy, first.old, format, flash, stored, packed, room,
     ) {
         Ok(_) => {
             let taken = tell(good);
@@ -68,7 +73,7 @@ pub(crate) fn load_copies<B: Bucket, M: Format, F: Flash>(
                 used: taken.used,
                 live: taken.live,
                 len,
-                old: 0,
+                old: count_marked(aged),
             })
         }
         Err(copy) => Err(CopyFault::WriteFault { copy: copy as u32 }),

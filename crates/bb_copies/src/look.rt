@@ -7,8 +7,8 @@ ghost use Rattle.bb_bucket.specs.Calls.{IsQuiet};
 ghost use Rattle.std.specs.Str.{bytes_eq};
 ghost use Rattle.bb_copies.specs.Buckets.{AllAgree, AllServe, HasMemory, IsFoundWithin, kinds_of};
 ghost use Rattle.bb_copies.specs.Loading.{LookGives, looked_in};
-ghost use Rattle.bb_copies.specs.Looking.{FindsBelow, IsFirstNow, IsReadAt, area_by, copy_of};
-ghost use Rattle.bb_copies.specs.Looking.{front_kept, good_by};
+ghost use Rattle.bb_copies.specs.Looking.{FindsBelow, FirstAges, IsFirstNow, IsReadAt, area_by};
+ghost use Rattle.bb_copies.specs.Looking.{copy_of, front_kept, good_by};
 ghost use Rattle.bb_copies.specs.Passing.{FitsFront};
 ghost use Rattle.bb_copies.specs.Placing.{AllPlaced, PlacesCopy};
 
@@ -25,12 +25,14 @@ pub(crate) struct FirstCopy {
     pub copy: usize,
     /// How many bytes its area has.
     pub len: usize,
+    /// Whether it passes as an old area alone.
+    pub old: bool,
 }
 
 #[tactic(auto, using(bb_bucket::proofs::Quiet::quiet_same))]
 /// Reads all copies. The answer is the first that passes, whose area is then in front of `area`;
-/// those that pass it too, and have no Worn page, are marked. Where none passes `area` is as
-/// before. Nothing changes on the device.
+/// those that pass it too, not as an old one alone, and have no Worn page, are marked. Where none
+/// passes `area` is as before. Nothing changes on the device.
 pub(crate) fn look_over<B: Bucket, M: Format, F: Flash>(
     buckets: &mut Vec<B>,
     good: &mut Vec<bool>,
@@ -51,6 +53,9 @@ pub(crate) fn look_over<B: Bucket, M: Format, F: Flash>(
         (kinds_of B.holding buckets.old.items)
         (length buckets.old.items) (front_kept used area.new) good.new.items image
         (copy_of used))) }
+    ensures ages { IfOk result (λ used. ForSome (content (F.device flash.old)) (λ image.
+        FirstAges (M.form format.now) (F.device flash.old).geometry.page
+        (kinds_of B.holding buckets.old.items) image used)) }
     ensures inside { IfOk result (λ used. IfSome used (λ first.
         first.copy < length buckets.old.items)) }
     ensures fits { IfOk result (λ used. IfSome used (λ first.
@@ -193,21 +198,26 @@ fn compare(
     };
     let found = &found[..passed.len];
     match used {
-        Some(first) => (used, is_fresh(passed.worn, found, &area[..first.len])),
+        Some(first) => (
+            used,
+            is_fresh(passed.worn, passed.old, found, &area[..first.len]),
+        ),
         None => {
             area[..passed.len].copy_from_slice(found);
             let first = FirstCopy {
                 copy,
                 len: passed.len,
+                old: passed.old,
             };
-            (Some(first), is_fresh(passed.worn, found, found))
+            (Some(first), is_fresh(passed.worn, passed.old, found, found))
         }
     }
 }
 
-// A copy that passes is fresh where no page of its record is Worn, and it passes the area.
-fn is_fresh(worn: bool, passed: &[u8], area: &[u8]) -> bool
-    ensures { result ≡ (not worn && bytes_eq passed.now area.now) }
+// A copy that passes is fresh where no page of its record is Worn, and it passes the area, not as
+// an old one alone.
+fn is_fresh(worn: bool, old: bool, passed: &[u8], area: &[u8]) -> bool
+    ensures { result ≡ (not worn && not old && bytes_eq passed.now area.now) }
 {
-    !worn && *passed == *area
+    !worn && !old && *passed == *area
 }

@@ -20,6 +20,7 @@ use bb_flash::Flash;
 pub(crate) fn save_first<B: Bucket, M: Format, F: Flash>(
     buckets: &mut Vec<B>,
     good: &mut Vec<bool>,
+    aged: &mut Vec<bool>,
     format: &M,
     flash: &mut F,
     area: &[u8],
@@ -33,6 +34,7 @@ pub(crate) fn save_first<B: Bucket, M: Format, F: Flash>(
     requires whole { IsDevice (F.device flash.old) }
     requires placed { AllPlaced B.holding buckets.old.items }
     requires marks { length good.old.items ≡ length buckets.old.items }
+    requires ages { length aged.old.items ≡ length buckets.old.items }
     requires unmarked { (copy : ℕ) → is_marked good.old.items copy ≡ false }
     requires fits { IsTrue ((M.form format.now).fits area.now) }
     requires packed { rec.now ≡ (M.form format.now).text area.now }
@@ -66,9 +68,10 @@ pub(crate) fn save_first<B: Bucket, M: Format, F: Flash>(
     ensures placed { OnOk result (AllPlaced B.holding buckets.new.items) }
     ensures reads { ReadsNothing (F.device flash.old) (F.device flash.new) }
     ensures marks { length good.new.items ≡ length good.old.items }
+    ensures ages { length aged.new.items ≡ length aged.old.items }
     ensures memory { HasMemory (M.form format.now) room.new }
 {
-    refresh(buckets, good, format, flash, area, rec, room)?;
+    refresh(buckets, good, aged, format, flash, area, rec, room)?;
     if first_good(good, good.len()).is_none() {
         return Err(good.len() - 1);
     }
@@ -81,6 +84,7 @@ pub(crate) fn save_first<B: Bucket, M: Format, F: Flash>(
 pub(crate) fn save_over<B: Bucket, M: Format, F: Flash>(
     buckets: &mut Vec<B>,
     good: &mut Vec<bool>,
+    aged: &mut Vec<bool>,
     used: usize,
     format: &M,
     flash: &mut F,
@@ -95,6 +99,7 @@ pub(crate) fn save_over<B: Bucket, M: Format, F: Flash>(
     requires whole { IsDevice (F.device flash.old) }
     requires placed { AllPlaced B.holding buckets.old.items }
     requires marks { length good.old.items ≡ length buckets.old.items }
+    requires ages { length aged.old.items ≡ length buckets.old.items }
     requires unmarked { (copy : ℕ) → is_marked good.old.items copy ≡ false }
     requires fits { IsTrue ((M.form format.now).fits area.now) }
     requires packed { rec.now ≡ (M.form format.now).text area.now }
@@ -130,9 +135,12 @@ pub(crate) fn save_over<B: Bucket, M: Format, F: Flash>(
     ensures placed { OnOk result (AllPlaced B.holding buckets.new.items) }
     ensures reads { ReadsNothing (F.device flash.old) (F.device flash.new) }
     ensures marks { length good.new.items ≡ length good.old.items }
+    ensures ages { length aged.new.items ≡ length aged.old.items }
     ensures memory { HasMemory (M.form format.now) room.new }
 {
-    let stored = settle_all(buckets, good, used, format, flash, area, rec, room)?;
+    let stored = settle_all(
+        buckets, good, aged, used, false, format, flash, area, rec, room,
+    )?;
     if stored {
         return Ok(());
     }
@@ -143,6 +151,7 @@ pub(crate) fn save_over<B: Bucket, M: Format, F: Flash>(
 pub(crate) fn save_all<B: Bucket, M: Format, F: Flash>(
     buckets: &mut Vec<B>,
     good: &mut Vec<bool>,
+    aged: &mut Vec<bool>,
     used: Option<usize>,
     format: &M,
     flash: &mut F,
@@ -157,6 +166,7 @@ pub(crate) fn save_all<B: Bucket, M: Format, F: Flash>(
     requires whole { IsDevice (F.device flash.old) }
     requires placed { AllPlaced B.holding buckets.old.items }
     requires marks { length good.old.items ≡ length buckets.old.items }
+    requires ages { length aged.old.items ≡ length buckets.old.items }
     requires unmarked { (copy : ℕ) → is_marked good.old.items copy ≡ false }
     requires fits { IsTrue ((M.form format.now).fits area.now) }
     requires packed { rec.now ≡ (M.form format.now).text area.now }
@@ -191,10 +201,11 @@ pub(crate) fn save_all<B: Bucket, M: Format, F: Flash>(
     ensures placed { OnOk result (AllPlaced B.holding buckets.new.items) }
     ensures reads { ReadsNothing (F.device flash.old) (F.device flash.new) }
     ensures marks { length good.new.items ≡ length good.old.items }
+    ensures ages { length aged.new.items ≡ length aged.old.items }
     ensures memory { HasMemory (M.form format.now) room.new }
 {
     match used {
-        None => save_first(buckets, good, format, flash, area, rec, room),
-        Some(used) => save_over(buckets, good, used, format, flash, area, rec, room),
+        None => save_first(buckets, good, aged, format, flash, area, rec, room),
+        Some(used) => save_over(buckets, good, aged, used, format, flash, area, rec, room),
     }
 }

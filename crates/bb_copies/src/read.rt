@@ -4,7 +4,7 @@ ghost use Rattle.std.specs.Option.{ForSome};
 ghost use Rattle.bb_base.specs.Faults.{counted};
 ghost use Rattle.bb_flash.specs.Device.{content};
 ghost use Rattle.bb_bucket.specs.Calls.{Agrees, IsQuiet};
-ghost use Rattle.bb_copies.specs.Passing.{FitsFront, IsChecked, IsReading};
+ghost use Rattle.bb_copies.specs.Passing.{FitsFront, HasAge, IsChecked, IsReading};
 
 use bb_base::{Failed, Format, Passed};
 use bb_bucket::Bucket;
@@ -15,6 +15,8 @@ use bb_flash::Flash;
 pub struct PassingCopy {
     /// A page of its record is Worn: it is to be written anew.
     pub worn: bool,
+    /// It passes as an old area alone: it is to be written anew too.
+    pub old: bool,
     /// How many bytes its area has.
     pub len: usize,
 }
@@ -58,6 +60,7 @@ pub fn read_copy<B: Bucket, M: Format, F: Flash>(
     };
     Ok(Some(PassingCopy {
         worn: found.worn,
+        old: passed.old,
         len: passed.len,
     }))
 }
@@ -81,6 +84,9 @@ fn check_found<B: Bucket, M: Format, F: Flash>(
     ensures done { IfOk result (λ passed. ForSome (content (F.device flash.old)) (λ image.
         IsChecked (M.form format.now) (F.device flash.old).geometry.page (B.holding bucket.old).kind
         image area.new passed)) }
+    ensures age { IfOk result (λ passed. ForSome (content (F.device flash.old)) (λ image.
+        IfSome passed (λ found. HasAge (M.form format.now) (F.device flash.old).geometry.page
+        (B.holding bucket.old).kind image found.old))) }
     ensures fits { IfOk result (λ passed. IfSome passed (λ found.
         FitsFront (M.form format.now) found.len area.new)) }
     ensures room { IfOk result (λ passed. IfSome passed (λ found.

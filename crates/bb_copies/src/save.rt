@@ -20,6 +20,7 @@ use bb_flash::Flash;
 pub(crate) fn save_copies<B: Bucket, M: Format, F: Flash>(
     buckets: &mut Vec<B>,
     good: &mut Vec<bool>,
+    aged: &mut Vec<bool>,
     used: Option<usize>,
     format: &M,
     flash: &mut F,
@@ -35,6 +36,7 @@ pub(crate) fn save_copies<B: Bucket, M: Format, F: Flash>(
     requires whole { IsDevice (F.device flash.old) }
     requires placed { AllPlaced B.holding buckets.old.items }
     requires marks { length good.old.items ≡ length buckets.old.items }
+    requires ages { length aged.old.items ≡ length buckets.old.items }
     requires fits { IsTrue ((M.form format.now).fits area.now) }
     requires record { (M.form format.now).length_of (length area.now) ≤ length rec.old.items }
     requires memory { HasMemory (M.form format.now) room.old }
@@ -51,13 +53,14 @@ pub(crate) fn save_copies<B: Bucket, M: Format, F: Flash>(
     ensures placed { OnOk result (AllPlaced B.holding buckets.new.items) }
     ensures reads { ReadsNothing (F.device flash.old) (F.device flash.new) }
     ensures marks { length good.new.items ≡ length good.old.items }
+    ensures ages { length aged.new.items ≡ length aged.old.items }
     ensures record { length rec.new.items ≡ length rec.old.items }
     ensures memory { HasMemory (M.form format.now) room.new }
 {
     let len = pack(format, area, rec);
     clear(good);
     let packed = front(rec, len);
-    match save_all(buckets, good, used, format, flash, area, packed, room) {
+    match save_all(buckets, good, aged, used, format, flash, area, packed, room) {
         Ok(()) => Ok(tell(good)),
         Err(copy) => Err(CopyFault::WriteFault { copy: copy as u32 }),
     }

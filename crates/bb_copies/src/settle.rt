@@ -4,8 +4,9 @@ ghost use Rattle.bb_bucket.specs.Calls.{Agrees, told_but_reads};
 ghost use Rattle.bb_copies.specs.Buckets.{HasMemory};
 ghost use Rattle.bb_copies.specs.Erasing.{IsBoundedInSum};
 ghost use Rattle.bb_copies.specs.Placing.{ReadsNothing};
-ghost use Rattle.bb_copies.specs.Settling.{CountsAs, EndsAs, IsCompared, NothingFails};
+ghost use Rattle.bb_copies.specs.Settling.{CountsAs, EndsAs, IsAged, IsCompared, NothingFails};
 ghost use Rattle.bb_copies.specs.Settling.{IsRepairWritten, ReadsAs, ReadsOnce, SettlesCopy};
+ghost use Rattle.bb_copies.specs.Settling.{ends_old};
 ghost use Rattle.bb_copies.specs.declared.settle.Settled.TheVariants.{Stuck};
 
 use crate::load::front;
@@ -20,6 +21,8 @@ use bb_flash::Flash;
 pub(crate) enum Settled {
     /// It passes the wanted area.
     Good,
+    /// It passes the wanted area as an old one alone: it could be neither written nor voided.
+    Aged,
     /// It passes nothing.
     Dead,
     /// It passes another area and can't be voided, or it can't be read.
@@ -46,6 +49,8 @@ pub(crate) fn settle<B: Bucket, M: Format, F: Flash>(
     requires memory { HasMemory (M.form format.now) room.old }
     ensures ends { EndsAs (M.form format.now) (B.holding bucket.old).kind area.now
         (F.device flash.old) (F.device flash.new) result }
+    ensures age { result ≢ Stuck → IsAged (M.form format.now) (B.holding bucket.old).kind
+        (ends_old result) (F.device flash.old) (F.device flash.new) }
     ensures settles { SettlesCopy (M.form format.now) (B.holding bucket.old).kind area.now
         (F.device flash.old) (F.device flash.new) }
     ensures exact { NothingFails (F.device flash.old) (F.device flash.new)
@@ -83,6 +88,8 @@ fn read_back<B: Bucket, M: Format, F: Flash>(
     requires memory { HasMemory (M.form format.now) room.old }
     ensures ends { ReadsAs (M.form format.now) (B.holding bucket.old).kind area.now
         (F.device flash.old) (F.device flash.new) result }
+    ensures age { result ≢ Stuck → IsAged (M.form format.now) (B.holding bucket.old).kind
+        (ends_old result) (F.device flash.old) (F.device flash.new) }
     ensures counts { ReadsOnce (F.device flash.old) (F.device flash.new) result }
     ensures quiet { told_but_reads (F.device flash.new) ≡ told_but_reads (F.device flash.old) }
     ensures settles { SettlesCopy (M.form format.now) (B.holding bucket.old).kind area.now
@@ -96,19 +103,31 @@ fn read_back<B: Bucket, M: Format, F: Flash>(
         Ok(None) => Settled::Dead,
         Ok(Some(found)) => {
             let passed = front(&room.area, found.len);
-            compare_areas(passed, area)
+            compare_areas(passed, found.old, area)
         }
         Err(Failed) => Settled::Stuck,
     }
 }
 
-// A copy passes one area, and another or the same is wanted.
-fn compare_areas(passed: &[u8], wanted: &[u8]) -> Settled
-    ensures { IsCompared passed.now wanted.now result }
+// A copy passes one area, as an old one alone or not, and another or the same is wanted.
+fn compare_areas(passed: &[u8], old: bool, wanted: &[u8]) -> Settled
+    ensures { IsCompared passed.now old wanted.now result }
 {
     if passed == wanted {
-        Settled::Good
+        if old { Settled::Aged } else { Settled::Good }
     } else {
         Settled::Stuck
+    }
+}
+
+/// Whether a copy that was settled still passes as an old one.
+pub(crate) fn ends_old(settled: Settled) -> bool
+    ensures { result ≡ ends_old settled }
+{
+    match settled {
+        Settled::Good => false,
+        Settled::Aged => true,
+        Settled::Dead => false,
+        Settled::Stuck => false,
     }
 }

@@ -1,6 +1,7 @@
 ghost use Rattle.std.specs.Prelude.{◌≡◌, ℕ, ◌≤◌, MatchOption, count_by, false, length};
 ghost use Rattle.bb_base.specs.Form.{most_copies};
-ghost use Rattle.bb_copies.specs.Refreshing.{IsFirstMarked, NoOther, SomeMarked, is_marked};
+ghost use Rattle.bb_copies.specs.Refreshing.{IsFirstMarked, NoOther, SomeMarked, count_marked};
+ghost use Rattle.bb_copies.specs.Refreshing.{is_marked};
 
 /// The first copy that is marked, but for the one of a number.
 pub(crate) fn first_good(good: &[bool], but: usize) -> Option<usize>
@@ -27,6 +28,14 @@ pub(crate) fn live(good: &[bool]) -> usize
     ensures { result ≡ count_by (λ marked. marked) good.now }
 {
     good.iter().filter(|marked| **marked).count()
+}
+
+/// How many copies are marked, of which there are three at most.
+pub(crate) fn count_marked(marked: &Vec<bool>) -> u32
+    requires { length marked.now.items ≤ most_copies }
+    ensures { result ≡ count_marked marked.now.items }
+{
+    live(marked) as u32
 }
 
 /// Marks no copy.

@@ -11,11 +11,11 @@ use Rattle.bb_chooser.specs.declared.cause.Cause.{Cause}
 use Rattle.bb_flash.specs.declared.plan.Plan.{Plan as StartPlan}
 use Rattle.bb_plan.specs.Plan.{SessionPlan}
 use Rattle.bb_plan.specs.declared.plan.Work.TheVariants.{Boot, Good}
-use Rattle.bb_session.proofs.Acted.{session_after}
+use Rattle.bb_session.proofs.Acted.{counts_apart, session_after}
 use Rattle.bb_session.proofs.Barred.{chosen_acts, lost_is, lost_unchanged}
 use Rattle.bb_session.specs.Acting.{Acts, BootsFrom, LostPlace, NoneBest, SavesOnce, Stops, acts_of, kept_before, marks_of, needs_table, rounds_for, sound_answers, start_plans_of}
 use Rattle.bb_session.specs.Exactly.{last_area_of}
-use Rattle.bb_session.specs.Session.{answers_after, rounds_after}
+use Rattle.bb_session.specs.Session.{acts_after, answers_after, counts_when_sound, rounds_after}
 use Rattle.bb_shell.proofs.Answering.{best_is, best_none}
 use Rattle.bb_shell.proofs.Attempts.{total_some}
 use Rattle.bb_shell.proofs.Sound.{sounds}
@@ -57,7 +57,10 @@ module _ (plan : SessionPlan) (table : List ℕ) (own : IsOwn plan.keyed.layout 
   pub made_after : (acts : Acts) → acts_of plan.keyed.layout plan.work table ≡ acts →
       made_by plan table ≡ LastSaved table (rounds_for (start_plans_of plan.work) acts (sound_answers acts))
   made_after acts is =
+      let first = acts_after plan (Some table) in
       made_is
+      ∙ ap (λ rounds. LastSaved table rounds)
+      (counts_apart (start_plans_of plan.work) first (sound_answers first) (counts_when_sound plan (Some table)))
       ∙ ap (λ (a : Acts). LastSaved table (rounds_for (start_plans_of plan.work) a (sound_answers a)))
       (ap (acts_of plan.keyed.layout plan.work) own ∙ is)
 

@@ -92,6 +92,7 @@ none_started files (requests.Good settings) layout work h e =
     ap start_plans_of (sym (same_Ok (works.Good targets.value) work targets.second))
 none_started files (requests.Boot settings cause) layout work h e = absurd cc
 none_started files (requests.Run settings script cause) layout work h e = absurd cc
+none_started files requests.Rekey layout work h e = ap start_plans_of (sym (same_Ok works.Rekey work h))
 
 same_plan : (p q : SessionPlan) →
     ◌≡◌ {A = Result Task Refusal} (Ok (OnCopies p)) (Ok (OnCopies q)) → p ≡ q

@@ -17,12 +17,12 @@ use Rattle.bb_layout.specs.Layout.{Laid}
 use Rattle.bb_plan.specs.Plan.{SessionPlan, first_area}
 use Rattle.bb_plan.specs.declared.plan.Work.{Work}
 use Rattle.bb_plan.specs.declared.plan.Work.TheVariants.{History, Show}
-use Rattle.bb_session.proofs.Acted.{by_work, session_after}
+use Rattle.bb_session.proofs.Acted.{by_work, counts_apart, session_after}
 use Rattle.bb_session.proofs.Faulting.{copies_are}
 use Rattle.bb_session.specs.Acting.{WorkAnswers, acts_of, kept_before, needs_table, sound_answers, start_plans_of, rounds_for}
 use Rattle.bb_session.specs.Exactly.{PassAlike, last_area, last_area_of, saves_made}
 use Rattle.bb_session.specs.Looking.{first_found, passed_in}
-use Rattle.bb_session.specs.Session.{LoadAnswer, answers_after, loaded_area}
+use Rattle.bb_session.specs.Session.{LoadAnswer, acts_after, answers_after, counts_when_sound, loaded_area}
 use Rattle.bb_session.specs.Work.{IsWork}
 use Rattle.bb_shell.specs.Stages.{saves_of}
 use Rattle.bb_state.specs.Keyed.{Keyed}
@@ -102,7 +102,10 @@ SavesOn plan table =
 saves_on : (plan : SessionPlan) (found : Option (List ℕ)) →
     saves_made plan found (answers_after plan (Ok found)) ≡ SavesOn plan (loaded_area plan.keyed.layout found)
 saves_on plan found =
-    ap (λ rounds. saves_of (kept_before plan.work (loaded_area plan.keyed.layout found)) rounds) (session_after plan found (answers_after plan (Ok found)))
+    let acts = acts_after plan found in
+    ap (λ rounds. saves_of (kept_before plan.work (loaded_area plan.keyed.layout found)) rounds)
+    (session_after plan found (answers_after plan (Ok found))
+    ∙ counts_apart (start_plans_of plan.work) acts (sound_answers acts) (counts_when_sound plan found))
 
 -- and the same is saved where the defaults were loaded
 same_saves : (plan : SessionPlan) → IsOwn plan.keyed.layout (first_area plan.keyed.layout) →

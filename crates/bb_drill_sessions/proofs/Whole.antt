@@ -144,7 +144,7 @@ module _ (plan : SessionPlan) (before after : Memory) (geometry : before.geometr
       subst
       (λ f. (work_session plan (Ok f) answers).rounds ≡ (work_session plan (Ok f) (answers_after plan (Ok f))).rounds) held_is
       (ap (λ (s : Session). s.rounds)
-      (work_same plan (device_of before) (device_of after) found answers work whole memory X refl (inr calm.starts))
+      (work_same plan (device_of before) (device_of after) found answers work whole memory X refl calm.calls (inr calm.starts))
       ∙ listed_aside plan found (listed_by plan.work plan.keyed before.geometry.page X))
 
   left : LeavesRegions (laid_kinds plan.keyed.layout) board_geometry.page (worked_region plan Held answers) X Y

@@ -13,7 +13,7 @@ use Rattle.bb_drill_sessions.specs.Documents.{board_files, board_name}
 
 -- the state that all words name: the first in the board's source, without a key
 abbrev pub board_described : Described
-board_described = record { file = board_name; name = None; key = None }
+board_described = record { file = board_name; name = None; key = None; old_key = None }
 
 -- its layout, if the source gives one
 unfoldable pub board_keyed : Option Keyed

@@ -23,7 +23,7 @@ pub(crate) fn look(alloc: Global, board: &mut MemBoard) -> Result<Option<Bytes>,
     ensures calm { OnOk result (board.new.faults ≡ board.old.faults) }
 {
     let plan = plan_of(alloc, DrillCommand::Show)?;
-    let mut state = State::mount(alloc, plan.keyed.layout, plan.keyed.key)?;
+    let mut state = State::mount(alloc, plan.keyed.layout, plan.keyed.key, plan.keyed.old)?;
     let _whole = board.geometry();
     look_at(alloc, board, &mut state)
 }

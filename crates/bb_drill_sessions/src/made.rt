@@ -59,9 +59,9 @@ fn bytes_of(alloc: Global, slice: &[u8]) -> Result<Bytes, NoMemory>
     Ok(bytes)
 }
 
-// Makes of a table what the work of a plan does. The drill has no work that saves an area, runs a
-// script or installs an image, and none whose best target has no plan. A look and a history make
-// nothing of it.
+// Makes of a table what the work of a plan does. The drill has no work that saves an area, changes
+// a key, runs a script or installs an image, and none whose best target has no plan. A look and a
+// history make nothing of it.
 fn follow(plan: &PlannedWork, table: &mut Table) -> Result<(), NoMemory>
     requires served { IsServed (keyed_as plan.now.keyed) plan.now.work }
     requires sized { length table.old ≡ plan.now.keyed.layout.area_len }
@@ -71,6 +71,7 @@ fn follow(plan: &PlannedWork, table: &mut Table) -> Result<(), NoMemory>
         Work::Show => {}
         Work::History => {}
         Work::Write(_) => return Err(NoMemory),
+        Work::Rekey => return Err(NoMemory),
         Work::Run(_, _, _, _) => return Err(NoMemory),
         Work::Install(_, _, _) => return Err(NoMemory),
         Work::Act(actions) => put_values(table, actions),

@@ -100,7 +100,7 @@ earlier_held mid last k continued order = elim (below_or_not k (moment mid)) [
       ap (image_at last) same ∙ continued.held ∙ sym (image_at-now mid) ∙ ap (image_at mid) (sym same)
 ]
 
-fair_earlier : (L : Change → Image → Type 0) (mid last : Told) (since until most : ℕ) → IsContinued mid last → until ≤ moment mid → until ≤ most → IsFair L last since most → IsFair L mid since until
+pub fair_earlier : (L : Change → Image → Type 0) (mid last : Told) (since until most : ℕ) → IsContinued mid last → until ≤ moment mid → until ≤ most → IsFair L last since most → IsFair L mid since until
 fair_earlier L mid last since until most continued inside order fair = λ call change later before made lucky.
     fair call change later (omega arith) (earlier_call mid last call continued (omega arith) ∙ made)
     (subst (λ (i : Image). L change i) (sym (earlier_held mid last (call + 1) continued (omega arith))) lucky)

@@ -53,7 +53,7 @@ unfit vars actions action_errors.NoMemory refused some = absurd (some refl)
 -- the layout of raw records serves what is asked of it
 pub raw_served : (magic len : ℕ) (geometry : Geometry) (laid : Laid) (action : RawAction) →
     raw_layout magic len geometry ≡ Ok laid → laid.format ≡ formats.Raw → IsSizedFor len action →
-    IsServed (record { layout = laid; key = None }) (raw_work action)
+    IsServed (record { layout = laid; key = None; old = None }) (raw_work action)
 raw_served magic len geometry laid raw_actions.Look is format exact =
     record { format = format; unkeyed = refl }
 raw_served magic len geometry laid (raw_actions.Write area) is format exact =

@@ -57,7 +57,7 @@ use Rattle.bb_words.specs.declared.command.RawAction.TheVariants as raw_actions
 use Rattle.bb_words.specs.declared.command.VerifyCommand.{VerifyCommand}
 use Rattle.bb_plan.specs.Installing.{LaidSlot, comparing, digested, fitting, image_reading, install_after, install_for, install_in_slot, install_of, install_on, install_reading, install_work_reading, installing, laid_slot_by, laid_slot_in, laid_slot_reading, slot_by, target_by, verify_after, verify_in_slot, verify_reading, with_slot}
 use Rattle.bb_plan.specs.Status.{is_planning}
-use Rattle.bb_plan.specs.PlanSteps.{actions_by, binding_by, binding_reading, blob_root, block_by, block_reading, bound_on, cause_of, entries_reading, is_blob, key_after, key_reading, keyed_reading, laid_by, layout_by, layout_reading, named_block, plans_reading, refused_as, script_by, script_reading, source_root, targets_by, tree_in, with_key}
+use Rattle.bb_plan.specs.PlanSteps.{actions_by, binding_by, binding_reading, blob_root, block_by, block_reading, bound_on, cause_of, entries_reading, is_blob, key_reading, keyed_reading, keys_after, laid_by, layout_by, layout_reading, named_block, old_after, old_block, old_reading, plans_reading, refused_as, script_by, script_reading, source_root, targets_by, tree_in, with_keys}
 use Rattle.bb_plan.specs.Plan.{Act, Boot, FileAnswers, Good, Install, OnCopies, Prints, Run, SessionPlan, Task, Work, boot_reading, command_reading, described_reading, first_area, on_copies, on_keyed, plan_by_words, plan_reading, planned, raw_on, raw_work, run_of, run_reading, words_reading, work_reading}
 use Rattle.bb_plan.specs.FilesRead.{EachEnd, Reading, Yields, and_then, result_by, reading_of}
 use Rattle.bb_plan.specs.Refusal.{status_of}
@@ -298,22 +298,38 @@ key_ends file format = by (takes_key format)
     by true = named_ends file
     by false = tt
 
+old_ends : (file : Option (List ℕ)) (format : FormatKind) → Ends Any (old_reading file format)
+old_ends file format = by (takes_key format)
+  where
+    named : (file : Option (List ℕ)) → Ends Any (old_block file)
+    named None = tt
+    named (Some file) =
+        then_ends Any Any (λ (block : List ℕ). Yields (Some block)) (block_reading file)
+        (block_ends file) (λ block any. tt)
+
+    by : (takes : Bool) → Ends Any (cond takes (old_block file) (Yields None))
+    by true = named file
+    by false = tt
+
 abbrev HasSize : Keyed → Type 0
 HasSize keyed = IsSized keyed.layout
 
-key_after_ends : (key : Option (List ℕ)) (layout : Laid) → IsSized layout →
-    Ends HasSize (key_after key layout)
-key_after_ends key layout sized =
-    then_ends Any HasSize (with_key layout) (key_reading key layout.format)
-    (key_ends key layout.format) (λ block any. sized)
+keys_after_ends : (key old : Option (List ℕ)) (layout : Laid) → IsSized layout →
+    Ends HasSize (keys_after key old layout)
+keys_after_ends key old layout sized =
+    then_ends Any HasSize (old_after old layout) (key_reading key layout.format)
+    (key_ends key layout.format)
+    (λ block any.
+    then_ends Any HasSize (with_keys layout block) (old_reading old layout.format)
+    (old_ends old layout.format) (λ other any. sized))
 
 keyed_ends : (described : Described) (geometry : Geometry) →
     Ends HasSize (keyed_reading described geometry)
 keyed_ends described geometry =
-    then_ends IsSized HasSize (key_after described.key)
+    then_ends IsSized HasSize (keys_after described.key described.old_key)
     (layout_reading described.file described.name geometry)
     (layout_ends described.file described.name geometry)
-    (λ layout sized. key_after_ends described.key layout sized)
+    (λ layout sized. keys_after_ends described.key described.old_key layout sized)
 
 binding_ends : (file : List ℕ) (layout : Laid) → IsSized layout →
     Ends (IsBoundSo layout) (binding_reading file layout)
@@ -369,6 +385,7 @@ work_ends (requests.Run settings file cause) layout sized =
     (λ (plans : List (Option StartPlan)). Yields (Run script targets (cause_of cause) plans))
     (plans_reading targets) (entries_end 0 (entries_of targets))
     (λ plans any. record { layout_is = sized; bound = bound.0; binding = bound.1 })))
+work_ends requests.Rekey layout sized = tt
 
 described_ends : (described : Described) (geometry : Geometry) (request : Request) →
     Ends IsSizedTask (described_reading described geometry request)
@@ -454,8 +471,8 @@ install_ends command geometry =
     (laid_slot_ends command.described command.slot.label geometry)
     (λ laid sized.
     then_ends HasSize IsSizedTask (install_on command laid.slot)
-    (key_after command.described.key laid.layout)
-    (key_after_ends command.described.key laid.layout sized)
+    (keys_after command.described.key command.described.old_key laid.layout)
+    (keys_after_ends command.described.key command.described.old_key laid.layout sized)
     (λ keyed here.
     then_ends (IsSizedOn keyed.layout) IsSizedTask (on_copies keyed)
     (install_work_reading command laid.slot keyed.layout)
@@ -505,6 +522,8 @@ command_ends (commands.Install command) geometry = install_ends command geometry
 command_ends (commands.Verify command) geometry = verify_ends command geometry
 command_ends (commands.History command) geometry =
     described_ends command.described geometry requests.History
+command_ends (commands.Rekey command) geometry =
+    described_ends command.described geometry requests.Rekey
 command_ends (commands.Menu command) geometry = λ found. menu_ends command.dir found
 command_ends (commands.Drill numbers) geometry = tt
 

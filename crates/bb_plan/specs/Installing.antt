@@ -17,7 +17,7 @@ use Rattle.bb_words.specs.declared.command.Described.{Described}
 use Rattle.bb_words.specs.declared.command.InstallCommand.{InstallCommand}
 use Rattle.bb_words.specs.declared.command.VerifyCommand.{VerifyCommand}
 use Rattle.bb_plan.specs.FilesRead.{Reading, Yields, and_then, file_reading, reading_of}
-use Rattle.bb_plan.specs.PlanSteps.{binding_reading, key_after, laid_by, refused_as, tree_in}
+use Rattle.bb_plan.specs.PlanSteps.{binding_reading, keys_after, laid_by, refused_as, tree_in}
 use Rattle.bb_plan.specs.Tasks.{Compares, Install, Task, Work, on_copies}
 use Rattle.bb_plan.specs.declared.refusal.Refusal.{Refusal}
 use Rattle.bb_plan.specs.declared.refusal.Refusal.TheVariants as refusals
@@ -117,14 +117,15 @@ abbrev pub install_work_reading :
 install_work_reading command slot layout =
     and_then (install_of command slot) (binding_reading command.settings layout)
 
--- with the key of its records
+-- with the keys of its records
 abbrev pub install_on : InstallCommand → Result Region SlotError → Keyed → Reading Task
 install_on command slot keyed =
     and_then (on_copies keyed) (install_work_reading command slot keyed.layout)
 
 abbrev pub install_after : InstallCommand → LaidSlot → Reading Task
 install_after command laid =
-    and_then (install_on command laid.slot) (key_after command.described.key laid.layout)
+    and_then (install_on command laid.slot)
+    (keys_after command.described.key command.described.old_key laid.layout)
 
 abbrev pub install_reading : InstallCommand → Geometry → Reading Task
 install_reading command geometry =

@@ -14,7 +14,7 @@ use Rattle.bb_layout.specs.Results.{result_and_then}
 use Rattle.bb_layout.specs.Thirds.{raw_layout}
 use Rattle.bb_layout.specs.declared.format_kind.FormatKind.TheVariants as formats
 use Rattle.bb_script.specs.Tree.{ScriptTree}
-use Rattle.bb_state.specs.Keyed.{FitsKey, Keyed}
+use Rattle.bb_state.specs.Keyed.{FitsKey, FitsOld, Keyed}
 use Rattle.bb_words.specs.Words.{words_of}
 use Rattle.bb_words.specs.declared.command.CauseWord.{CauseWord}
 use Rattle.bb_words.specs.declared.command.Command.{Command}
@@ -38,7 +38,8 @@ use Rattle.bb_plan.specs.declared.request.Request.{Request}
 use Rattle.bb_plan.specs.declared.request.Request.TheVariants as requests
 use Rattle.bb_plan.specs.declared.status.Status.{Status}
 use Rattle.bb_plan.specs.Refusal.{status_of}
-pub use Rattle.bb_plan.specs.Tasks.{Act, Boot, Compares, Drills, Good, History, Install, OnCopies, Prints, Run, SessionPlan, Show, Task, Work, Write, on_copies}
+pub use Rattle.bb_plan.specs.Tasks.{Act, Boot, Compares, Drills, Good, History, Install, OnCopies}
+pub use Rattle.bb_plan.specs.Tasks.{Prints, Rekey, Run, SessionPlan, Show, Task, Work, Write, on_copies}
 
 -- how a session ends without a work on copies: it sends a text, it runs a drill, it compares a slot
 -- with an image, or it is refused
@@ -58,7 +59,7 @@ raw_work (raw_actions.Write area) = Write area
 abbrev pub raw_on : RawCommand → Laid → Result Task Refusal
 raw_on command layout =
     Ok (OnCopies (record {
-      keyed = record { layout = layout; key = None };
+      keyed = record { layout = layout; key = None; old = None };
       work = raw_work command.action;
     }))
 
@@ -96,8 +97,7 @@ work_reading (requests.Boot settings cause) layout =
     and_then (boot_reading cause) (binding_reading settings layout)
 work_reading (requests.Run settings file cause) layout =
     and_then (run_reading file cause) (binding_reading settings layout)
-
--- the layout and its key, and then the work on its copies
+work_reading requests.Rekey layout = Yields Rekey
 
 abbrev pub on_keyed : Request → Keyed → Reading Task
 on_keyed request keyed = and_then (on_copies keyed) (work_reading request keyed.layout)
@@ -123,6 +123,8 @@ command_reading (commands.Install command) geometry = install_reading command ge
 command_reading (commands.Verify command) geometry = verify_reading command geometry
 command_reading (commands.History command) geometry =
     described_reading command.described geometry requests.History
+command_reading (commands.Rekey command) geometry =
+    described_reading command.described geometry requests.Rekey
 command_reading (commands.Menu command) geometry =
     and_then (λ text. Yields (Prints text)) (menu_reading command.dir)
 command_reading (commands.Drill numbers) geometry = Yields (Drills numbers)
@@ -183,9 +185,9 @@ first_area layout = convert layout []
 
 -- ---- a plan as the code has it
 
--- a layout with its key
+-- a layout with its keys
 abbrev pub keyed_as : KeyedLayout → Keyed
-keyed_as keyed = record { layout = fields_of keyed.layout; key = keyed.key }
+keyed_as keyed = record { layout = fields_of keyed.layout; key = keyed.key; old = keyed.old }
 
 abbrev pub plan_as : PlannedWork → SessionPlan
 plan_as plan = record { keyed = keyed_as plan.keyed; work = plan.work }
@@ -221,7 +223,7 @@ pub record IsInstallable (layout : Laid) (targets : Binding) (target : ℕ) (pla
 
 -- a layout serves a work: a look and a save of an area are of raw records, a save is of an area of
 -- the layout's length, and actions and targets are bound to its variables. Every layout serves a
--- history
+-- history and a change of key
 abbrev pub IsServed : Keyed → Work → Type 0
 IsServed keyed Show = IsUnkeyedRaw keyed
 IsServed keyed History = ⊤
@@ -232,10 +234,13 @@ IsServed keyed (Boot targets cause plans) = IsBoundAt keyed.layout targets
 IsServed keyed (Run script targets cause plans) = IsBoundAt keyed.layout targets
 IsServed keyed (Install targets target place) =
     IsInstallable keyed.layout targets target place
+IsServed keyed Rekey = ⊤
 
--- a layout for a device of this geometry, with a key exactly where its records stand under one
+-- a layout for a device of this geometry, with a key exactly where its records stand under one, and
+-- an old one only there
 pub record IsLaidFor (geometry : Geometry) (keyed : Keyed) : Type 0 where
   pub fits : FitsKey keyed.layout.format keyed.key
+  pub old_fits : FitsOld keyed.layout.format keyed.old
   pub same_geometry : keyed.layout.geometry ≡ geometry
 
 -- and a plan for such a device

@@ -1,5 +1,5 @@
 -- The parts of a plan: the steps over what a file holds, each with its refusal, and what is read of
--- the devicetree, the key, the settings, the script and the entries. Each part is the same for all
+-- the devicetree, the keys, the settings, the script and the entries. Each part is the same for all
 -- commands.
 use Rattle.std.specs.Prelude.{ℕ, ◌+◌, Bool, List, [], ◌∷◌, nat_eq, Option, Some, None, Result, Ok, Err, slice_get, unwrap_or, if◌then◌else◌}
 use Rattle.std.specs.List.{starts_with}
@@ -69,7 +69,7 @@ abbrev pub layout_reading : List ℕ → Option (List ℕ) → Geometry → Read
 layout_reading file name geometry =
     and_then (λ bytes. reading_of (layout_by name geometry bytes)) (file_reading file)
 
--- ---- the key
+-- ---- the keys
 
 -- the block of the key that a text spells
 abbrev pub block_by : List ℕ → Result (List ℕ) Refusal
@@ -89,16 +89,28 @@ named_block (Some file) = and_then (λ block. Yields (Some block)) (block_readin
 abbrev pub key_reading : Option (List ℕ) → FormatKind → Reading (Option (List ℕ))
 key_reading file format = if takes_key format then named_block file else Yields None
 
--- a layout, and then the key of its records
-abbrev pub with_key : Laid → Option (List ℕ) → Reading Keyed
-with_key layout block = Yields (record { layout = layout; key = block })
+-- `--old-key`: that in the file of this name, where one is named
+abbrev pub old_block : Option (List ℕ) → Reading (Option (List ℕ))
+old_block None = Yields None
+old_block (Some file) = and_then (λ block. Yields (Some block)) (block_reading file)
 
-abbrev pub key_after : Option (List ℕ) → Laid → Reading Keyed
-key_after key layout = and_then (with_key layout) (key_reading key layout.format)
+abbrev pub old_reading : Option (List ℕ) → FormatKind → Reading (Option (List ℕ))
+old_reading file format = if takes_key format then old_block file else Yields None
+
+-- a layout, then the key of its records, and then the old one
+abbrev pub with_keys : Laid → Option (List ℕ) → Option (List ℕ) → Reading Keyed
+with_keys layout key old = Yields (record { layout = layout; key = key; old = old })
+
+abbrev pub old_after : Option (List ℕ) → Laid → Option (List ℕ) → Reading Keyed
+old_after old layout key = and_then (with_keys layout key) (old_reading old layout.format)
+
+abbrev pub keys_after : Option (List ℕ) → Option (List ℕ) → Laid → Reading Keyed
+keys_after key old layout = and_then (old_after old layout) (key_reading key layout.format)
 
 abbrev pub keyed_reading : Described → Geometry → Reading Keyed
 keyed_reading described geometry =
-    and_then (key_after described.key) (layout_reading described.file described.name geometry)
+    and_then (keys_after described.key described.old_key)
+    (layout_reading described.file described.name geometry)
 
 -- ---- the settings
 

@@ -5,9 +5,10 @@ use Rattle.bb_words.specs.declared.command.DrillNumbers.{DrillNumbers}
 use Rattle.bb_plan.specs.FilesRead.{Reading, Yields}
 use Rattle.bb_plan.specs.declared.plan.SlotImage.{SlotImage}
 pub use Rattle.bb_plan.specs.declared.plan.Work.{Work}
-pub use Rattle.bb_plan.specs.declared.plan.Work.TheVariants.{Act, Boot, Good, History, Install, Run, Show, Write}
+pub use Rattle.bb_plan.specs.declared.plan.Work.TheVariants.{Act, Boot, Good, History, Install}
+pub use Rattle.bb_plan.specs.declared.plan.Work.TheVariants.{Rekey, Run, Show, Write}
 
--- the layout with the block of its key, if its records stand under one, and the work
+-- the layout with the blocks of its keys, if its records stand under one, and the work
 pub record SessionPlan : Type 0 where
   pub keyed : Keyed
   pub work : Work

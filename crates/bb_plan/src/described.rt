@@ -3,15 +3,14 @@ ghost use Rattle.std.specs.Option.{option_copied};
 ghost use Rattle.bb_flash.specs.Geometry.{IsGeometry};
 ghost use Rattle.bb_layout.specs.Layout.{fields_of};
 ghost use Rattle.bb_tree.specs.NodeViews.{branch_of};
-ghost use Rattle.bb_plan.specs.PlanSteps.{blob_root, key_after, keyed_reading, layout_by};
-ghost use Rattle.bb_plan.specs.PlanSteps.{layout_reading};
-ghost use Rattle.bb_plan.specs.PlanSteps.{source_root, tree_in};
+ghost use Rattle.bb_plan.specs.PlanSteps.{blob_root, keyed_reading, keys_after, layout_by};
+ghost use Rattle.bb_plan.specs.PlanSteps.{layout_reading, source_root, tree_in};
 ghost use Rattle.bb_plan.specs.Plan.{IsLaidFor, keyed_as};
 ghost use Rattle.bb_plan.specs.FilesRead.{IsExpected, IsReadAs};
 ghost use Rattle.bb_plan.specs.Refusal.{IsSendableRefusal};
 
 use crate::file::read_file;
-use crate::key::read_key;
+use crate::key::{read_key, read_old_key};
 use crate::refusal::Refusal;
 use bb_base::{Files, Text};
 use bb_dts::read_source;
@@ -23,14 +22,16 @@ use bb_tree::Tree;
 use bb_words::Described;
 use std::alloc::Global;
 
-/// A layout, and the key of its records, if they stand under one. It is never printed or copied.
+/// A layout, and the key of its records, if they stand under one, with the old key, if that is
+/// being changed. Neither is ever printed or copied.
 #[derive(Drop)]
 pub struct KeyedLayout {
     pub layout: Layout,
     pub key: Option<Key>,
+    pub old: Option<Key>,
 }
 
-/// The layout of the state that words name, with the key of its records, where they stand under
+/// The layout of the state that words name, with the keys of its records, where they stand under
 /// one.
 pub(crate) fn read_keyed<N: Files>(
     alloc: Global,
@@ -46,25 +47,29 @@ pub(crate) fn read_keyed<N: Files>(
 {
     let name = described.name.as_ref();
     let layout = read_layout(alloc, files, &described.file, name, geometry)?;
-    let key_file = described.key.as_ref();
-    with_key(alloc, files, key_file, layout)
+    with_keys(alloc, files, described, layout)
 }
 
-/// A layout, with the key of its records, where they stand under one.
-pub(crate) fn with_key<N: Files>(
+/// A layout, with the keys of its records, where they stand under one: first the file of the key is
+/// read, and then that of the old one.
+pub(crate) fn with_keys<N: Files>(
     alloc: Global,
     files: &mut N,
-    key_file: Option<&Text>,
+    described: &Described,
     layout: Layout,
 ) -> Result<KeyedLayout, Refusal>
-    ensures read { IsReadAs (key_after (option_copied key_file.entry) (fields_of layout)) keyed_as
+    ensures read { IsReadAs
+        (keys_after described.now.key described.now.old_key (fields_of layout)) keyed_as
         (N.folder files.old) (N.folder files.new) result }
     ensures laid { IfOk result (λ keyed. IsLaidFor layout.geometry (keyed_as keyed)) }
     ensures same { IfOk result (λ keyed. keyed.layout ≡ layout) }
     ensures tellable { IfErr result IsSendableRefusal }
 {
+    let key_file = described.key.as_ref();
     let key = read_key(alloc, files, key_file, layout.format)?;
-    Ok(KeyedLayout { layout, key })
+    let old_file = described.old_key.as_ref();
+    let old = read_old_key(alloc, files, old_file, layout.format)?;
+    Ok(KeyedLayout { layout, key, old })
 }
 
 // The layout of the state of that name, or of the first without one, that the devicetree in a file

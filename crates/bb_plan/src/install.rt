@@ -8,7 +8,7 @@ ghost use Rattle.bb_plan.specs.Plan.{IsServed, IsTaskFor, keyed_as, task_as};
 ghost use Rattle.bb_plan.specs.FilesRead.{IsExpected, IsReadAs};
 ghost use Rattle.bb_plan.specs.Refusal.{IsSendableRefusal};
 
-use crate::described::{KeyedLayout, with_key};
+use crate::described::{KeyedLayout, with_keys};
 use crate::image::{digested, read_image};
 use crate::plan::{PlannedTask, PlannedWork, SlotImage, Work};
 use crate::refusal::Refusal;
@@ -21,7 +21,7 @@ use bb_install::SlotError;
 use bb_words::{InstallCommand, VerifyCommand};
 use std::alloc::Global;
 
-/// `install`: the layout, its key, the targets, the slot and its image.
+/// `install`: the layout, its keys, the targets, the slot and its image.
 pub(crate) fn plan_install<N: Files>(
     alloc: Global,
     command: InstallCommand,
@@ -36,8 +36,7 @@ pub(crate) fn plan_install<N: Files>(
 {
     let label = &command.slot.label;
     let laid = read_laid_slot(alloc, files, &command.described, label, geometry)?;
-    let key_file = command.described.key.as_ref();
-    let keyed = with_key(alloc, files, key_file, laid.layout)?;
+    let keyed = with_keys(alloc, files, &command.described, laid.layout)?;
     let work = read_install(alloc, files, &command, &keyed, laid.slot)?;
     Ok(PlannedTask::OnCopies(PlannedWork { keyed, work }))
 }

@@ -1,7 +1,7 @@
 ghost use Rattle.std.specs.Prelude.{IfErr, IfOk};
 ghost use Rattle.std.specs.Option.{option_copied};
-ghost use Rattle.bb_state.specs.Keyed.{FitsKey};
-ghost use Rattle.bb_plan.specs.PlanSteps.{block_by, block_reading, key_reading};
+ghost use Rattle.bb_state.specs.Keyed.{FitsKey, FitsOld};
+ghost use Rattle.bb_plan.specs.PlanSteps.{block_by, block_reading, key_reading, old_reading};
 ghost use Rattle.bb_plan.specs.FilesRead.{IsExpected, IsReadAs};
 ghost use Rattle.bb_plan.specs.Refusal.{IsSendableRefusal};
 
@@ -31,6 +31,27 @@ pub(crate) fn read_key<N: Files>(
     match file {
         Some(file) => Ok(Some(spelt_key(alloc, files, file)?)),
         None => Err(Refusal::NoKey),
+    }
+}
+
+/// The old key of such records, which the file of that name spells, if one is named.
+pub(crate) fn read_old_key<N: Files>(
+    alloc: Global,
+    files: &mut N,
+    file: Option<&Text>,
+    format: FormatKind,
+) -> Result<Option<Key>, Refusal>
+    ensures read { IsReadAs (old_reading (option_copied file.entry) format) (λ key. key)
+        (N.folder files.old) (N.folder files.new) result }
+    ensures fits { IfOk result (FitsOld format) }
+    ensures tellable { IfErr result IsSendableRefusal }
+{
+    if !format.takes_key() {
+        return Ok(None);
+    }
+    match file {
+        Some(file) => Ok(Some(spelt_key(alloc, files, file)?)),
+        None => Ok(None),
     }
 }
 

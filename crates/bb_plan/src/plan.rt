@@ -27,6 +27,9 @@ pub enum Work {
     /// To load them, and to run this script, which boots by these targets, this cause and these
     /// plans.
     Run(SpeltScript, Chooser, Cause, PlanList),
+    /// To load them, which writes those under the old key anew, and to send how many copies pass
+    /// and how many of them under the old key alone.
+    Rekey,
     /// To load them, to disable the target of this place, to save the table that this makes where
     /// it is another, to write the image to its slot, to enable the target, to save that table, and
     /// to send the target and the image's length.

@@ -73,6 +73,9 @@ fn plan_command<N: Files>(
         Command::History(command) => {
             plan_described(alloc, &command.described, Request::History, files, geometry)
         }
+        Command::Rekey(command) => {
+            plan_described(alloc, &command.described, Request::Rekey, files, geometry)
+        }
         Command::Menu(command) => {
             let text = read_menu(alloc, files, &command.dir)?;
             Ok(PlannedTask::Prints(text))
@@ -90,7 +93,11 @@ fn plan_raw(alloc: Global, command: RawCommand, geometry: Geometry) -> Result<Pl
     ensures tellable { IfErr result IsSendableRefusal }
 {
     let layout = raw_layout(alloc, command.magic, command.area_len, geometry)?;
-    let keyed = KeyedLayout { layout, key: None };
+    let keyed = KeyedLayout {
+        layout,
+        key: None,
+        old: None,
+    };
     let work = raw_work(command.action);
     Ok(PlannedTask::OnCopies(PlannedWork { keyed, work }))
 }
@@ -104,7 +111,7 @@ fn raw_work(action: RawAction) -> Work
     }
 }
 
-// What is asked of a state: the layout that its file describes, with the key of its records, and
+// What is asked of a state: the layout that its file describes, with the keys of its records, and
 // the work on its copies.
 fn plan_described<N: Files>(
     alloc: Global,

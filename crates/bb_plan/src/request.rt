@@ -31,6 +31,8 @@ pub enum Request {
     /// To run the script in the second file over the targets of the settings in the first, after a
     /// reset of this cause.
     Run(Text, Text, CauseWord),
+    /// To write copies under the old key anew.
+    Rekey,
 }
 
 /// The work that is asked for, on the copies of that layout: its actions are bound, its settings,
@@ -67,6 +69,7 @@ pub(crate) fn read_work<N: Files>(
             let plans = read_entries(alloc, files, &chooser)?;
             Ok(Work::Run(script, chooser, cause_of(cause), plans))
         }
+        Request::Rekey => Ok(Work::Rekey),
     }
 }
 

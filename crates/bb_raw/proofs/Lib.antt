@@ -1,3 +1,4 @@
+pub mod Ends
 pub mod Examples
 pub mod Overlay
 pub mod Parts

@@ -1,7 +1,6 @@
 -- The checks of a record, part by part.
-use Rattle.std.proofs.Common.{◌≡◌, ℕ, ◌+◌, ◌-◌, ◌<◌, ◌≤◌, ◌%◌, ◌==◌, ◌⊎◌, Bool, true, false, ◌&&◌, List, ◌++◌, length, take, drop, min, Option, Some, None, IfSome, refl, sym, ap, ◌∙◌, arith, cond, nat_le, length-append, append_assoc, inl, inr, subst}
-use Rattle.std.specs.Option.{option_map}
-use Rattle.std.proofs.lemmas.Bool.{and_parts, cases_lt, eq-eqb, le-leb, leb-true}
+use Rattle.std.proofs.Common.{◌≡◌, ℕ, ◌+◌, ◌-◌, ◌<◌, ◌≤◌, ◌%◌, ◌==◌, ◌⊎◌, Bool, true, false, ◌&&◌, List, ◌++◌, length, take, drop, min, Option, Some, None, refl, sym, ap, ◌∙◌, arith, cond, nat_le, length-append, append_assoc, inl, inr}
+use Rattle.std.proofs.lemmas.Bool.{cases_lt, eq-eqb, le-leb}
 use Rattle.std.proofs.lemmas.Bool.Decides.{nat_tests}
 use Rattle.std.proofs.lemmas.List.{drop-append-le, drop-take, drop_at, length-drop, length-take-le, take-append-drop, take-append-le, take-take, take_all, take_at}
 use Rattle.std.proofs.Math.Seq.{take-add, take-append-add}
@@ -9,12 +8,9 @@ use Rattle.byteorder.specs.Endian.{little_number}
 use Rattle.byteorder.specs.Numbers.{little_from-take}
 use Rattle.std.specs.Str.{bytes_eq}
 use Rattle.bb_base.specs.Crc.{crc_of}
-use Rattle.bb_base.specs.Checked.{IsPassed}
-use Rattle.bb_base.specs.Form.{Form}
-use Rattle.bb_raw.specs.Feeding.{KeepsFed, passed_answer, code_after, fed_passes, has_come, kept_bytes, parts_agree, raw_holds}
-use Rattle.bb_raw.specs.Laws.{agrees_within, and_same, area_within, code_few, fails_first, field_within, header_within, too_few}
-use Rattle.bb_raw.specs.RoomLaws.{in_room, past_room}
-use Rattle.bb_raw.specs.Raw.{RawKind, RawRecords, area_agrees, area_of, code_len, data_len, hmac_text, has_field, header_agrees, longest_in, passes_as_long, passes_within, raw_agrees, raw_form, raw_length, raw_passes}
+use Rattle.bb_raw.specs.Feeding.{KeepsFed, code_after, fed_passes, has_come, kept_bytes, parts_agree}
+use Rattle.bb_raw.specs.Laws.{agrees_within, and_same, area_within, fails_first, field_within, header_within, too_few}
+use Rattle.bb_raw.specs.Raw.{RawKind, area_agrees, area_of, code_len, data_len, hmac_text, has_field, header_agrees, passes_as_long, passes_under, raw_agrees, raw_length}
 use Rattle.bb_raw.specs.declared.feed.RawFeed.{RawFeed}
 
 -- the parts of a record of an area of this length
@@ -135,7 +131,7 @@ fed_len header rest fed count h some same =
     ∙ data_len_front (take 16 fed) (drop 16 fed) (ap length front ∙ h) ∙ ap data_len front
 
 -- bytes that are too few for a header pass as nothing
-few_pass : (kind : RawKind) (fed : List ℕ) → length fed < 16 → raw_passes kind fed ≡ None
+few_pass : (kind : RawKind) (fed : List ℕ) → length fed < 16 → passes_under kind fed ≡ None
 few_pass kind fed few =
     fails_first _ (header_agrees kind.magic fed) (area_agrees (data_len fed) fed) _
     (area_of (data_len fed) fed)
@@ -147,7 +143,7 @@ any_parted :
     length feed.header ≡ 16 → data_len feed.header ≤ length area →
     length (take (code_len kind.key) feed.code) ≡ code_len kind.key →
     KeepsFed (kept_bytes kind feed area) feed.count fed →
-    raw_passes kind fed
+    passes_under kind fed
     ≡ cond (has_come kind feed area (data_len feed.header)) (Some (take (data_len feed.header) area)) None
 any_parted kind feed area fed h a c fedded =
     let header : List ℕ = feed.header in
@@ -196,19 +192,17 @@ any_parted kind feed area fed h a c fedded =
           ∙ passes
     ]
 
--- what passes nowhere doesn't pass in a room
-none_in : (raw : RawRecords) (fed : List ℕ) → raw_passes raw.kind fed ≡ None → passes_within raw fed ≡ None
-none_in raw fed none = elim (cases_lt (longest_in raw) (data_len fed)) [
-  | inl longer ↦ past_room raw fed longer
-  | inr room ↦ in_room raw fed room ∙ none
-]
-
 -- a record of which too few bytes came didn't come
 no_come : (kind : RawKind) (feed : RawFeed) (area : List ℕ) (n : ℕ) → feed.count < raw_length kind n →
     has_come kind feed area n ≡ false
 no_come kind feed area n few =
     ap (λ b. b && parts_agree kind feed.header (take n area) (code_after kind feed area n))
     (too_few (raw_length kind n) feed.count few)
+
+-- nothing is chosen of two that are nothing
+none_either : (b : Bool) (passes : Option (List ℕ)) → passes ≡ None → cond b passes None ≡ None
+none_either true passes e = e
+none_either false passes e = refl
 
 -- nothing is chosen where one of two tests doesn't hold
 no_test : (a b : Bool) (area : List ℕ) → (a ≡ false) ⊎ (b ≡ false) →
@@ -218,75 +212,43 @@ no_test true false area h = refl
 no_test true true area (inl e) = absurd cc
 no_test true true area (inr e) = absurd cc
 
--- the same in a room, for whose longest area there is memory
-parted_in :
-    (raw : RawRecords) (feed : RawFeed) (area fed : List ℕ) →
-    length feed.header ≡ 16 → length area ≡ longest_in raw →
-    length (take (code_len raw.kind.key) feed.code) ≡ code_len raw.kind.key →
-    raw_holds raw feed fed area →
-    passes_within raw fed
-    ≡ cond (fed_passes raw.kind feed area) (Some (take (data_len feed.header) area)) None
-parted_in raw feed area fed h a c fedded =
+-- where the memory is too short for the area that all that was fed speaks of, nothing passes
+pub under_one :
+    (kind : RawKind) (feed : RawFeed) (area fed : List ℕ) →
+    length feed.header ≡ 16 →
+    length (take (code_len kind.key) feed.code) ≡ code_len kind.key →
+    KeepsFed (kept_bytes kind feed area) feed.count fed →
+    cond (nat_le (data_len fed) (length area)) (passes_under kind fed) None
+    ≡ cond (fed_passes kind feed area) (Some (take (data_len feed.header) area)) None
+under_one kind feed area fed h c fedded =
     let header : List ℕ = feed.header in
-    let tail : List ℕ = take (code_len raw.kind.key) feed.code in
+    let tail : List ℕ = take (code_len kind.key) feed.code in
     let n : ℕ = data_len header in
-    let come : Bool = has_come raw.kind feed area n in
+    let come : Bool = has_come kind feed area n in
     let len = length-append header (area ++ tail) in
     let is = fedded.counted in
     elim (cases_lt (length fed) 16) [
       | inl few ↦
-          none_in raw fed (few_pass raw.kind fed few)
+          none_either (nat_le (data_len fed) (length area)) (passes_under kind fed)
+          (few_pass kind fed few)
           ∙ sym (no_test (nat_le n (length area)) come (take n area)
-          (inr (no_come raw.kind feed area n (omega arith))))
+          (inr (no_come kind feed area n (omega arith))))
       | inr enough ↦
           let same : data_len fed ≡ n =
           fed_len header (area ++ tail) fed feed.count h (omega arith) fedded.same in
-          elim (cases_lt (length area) n) [
+          ap (λ m. cond (nat_le m (length area)) (passes_under kind fed) None) same
+          ∙ elim (cases_lt (length area) n) [
             | inl longer ↦
-                past_room raw fed (omega arith)
+                ap (λ b. cond b (passes_under kind fed) None) (too_few n (length area) longer)
                 ∙ sym (no_test (nat_le n (length area)) come (take n area)
                 (inl (too_few n (length area) longer)))
             | inr room ↦
-                in_room raw fed (omega arith)
-                ∙ any_parted raw.kind feed area fed h room c fedded
+                ap (λ b. cond b (passes_under kind fed) None) (le-leb n (length area) room)
+                ∙ any_parted kind feed area fed h room c fedded
                 ∙ sym (ap (λ b. cond (b && come) (Some (take n area)) None)
                 (le-leb n (length area) room))
           ]
     ]
-
--- the answer by one test, of an area that stands in front
-answered :
-    (test : Bool) (form : Form) (fed area : List ℕ) (n : ℕ) → (test ≡ true → n ≤ length area) →
-    form.passes fed ≡ cond test (Some (take n area)) None → form.aged fed ≡ false →
-    IsPassed form fed area (passed_answer n test)
-answered true form fed area n h e f =
-    let long = length-take-le n area (h refl) in
-    record {
-      is =
-          ap (λ k. Some (record { len = k; old = false })) (sym long)
-          ∙ ap (λ b. Some (record { len = length (take n area); old = b })) (sym f)
-          ∙ sym (ap (option_map (λ l. record { len = length l; old = form.aged fed })) e);
-      area =
-          subst (λ (passes : Option (List ℕ)). IfSome passes (λ l. take (length l) area ≡ l)) (sym e)
-          (ap (λ k. take k area) long);
-    }
-answered false form fed area n h e f = record {
-  is = sym (ap (option_map (λ l. record { len = length l; old = form.aged fed })) e);
-  area =
-      subst (λ (passes : Option (List ℕ)). IfSome passes (λ l. take (length l) area ≡ l)) (sym e) tt;
-}
-
-pub raw_ends :
-    (raw : RawRecords) (feed : RawFeed) (area fed : List ℕ) →
-    length feed.header ≡ 16 → length area ≡ longest_in raw → length feed.code ≡ 32 →
-    raw_holds raw feed fed area →
-    IsPassed (raw_form raw) fed area (passed_answer (data_len feed.header) (fed_passes raw.kind feed area))
-raw_ends raw feed area fed h a c held =
-    let few = code_few raw.kind.key in
-    answered (fed_passes raw.kind feed area) (raw_form raw) fed area (data_len feed.header)
-    (λ passes. leb-true _ _ (and_parts _ _ passes).0)
-    (parted_in raw feed area fed h a
-    (length-take-le (code_len raw.kind.key) feed.code (omega arith)) held) refl
 
 -- ---- the code, which stands after the area's bytes
 

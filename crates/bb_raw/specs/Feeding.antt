@@ -1,10 +1,12 @@
 -- A raw record that comes in pieces: its parts are filled from the front on.
-use Rattle.std.specs.Prelude.{◌≡◌, ℕ, zero, suc, Bool, false, ◌&&◌, List, [], ◌∷◌, ◌++◌, length, take, drop, min, nat_le, Option, Some, None, if◌then◌else◌}
+use Rattle.std.specs.Prelude.{◌≡◌, ℕ, zero, suc, Bool, true, false, ◌&&◌, List, [], ◌∷◌, ◌++◌}
+use Rattle.std.specs.Prelude.{length, take, drop, min, nat_le, Option, Some, None}
 use Rattle.std.specs.Str.{bytes_eq}
 use Rattle.bb_base.specs.Crc.{crc_of}
 use Rattle.bb_base.specs.declared.format.Passed.{Passed}
 use Rattle.bb_raw.specs.declared.feed.RawFeed.{RawFeed}
-use Rattle.bb_raw.specs.Raw.{RawKind, RawRecords, code_len, data_len, has_field, header_agrees, hmac_text, raw_length}
+use Rattle.bb_raw.specs.Raw.{RawKind, RawRecords, code_len, data_len, has_field, header_agrees}
+use Rattle.bb_raw.specs.Raw.{hmac_text, kind_under, raw_length}
 
 -- bytes that are laid over others from a place on, as far as these reach
 unfoldable pub laid_over : ℕ → List ℕ → List ℕ → List ℕ
@@ -23,6 +25,7 @@ pub record KeepsFed (kept : List ℕ) (count : ℕ) (fed : List ℕ) : Type 0 wh
   pub counted : count ≡ min (length fed) (length kept)
   pub same : take count kept ≡ take count fed
 
+-- a code is as long under the old key as under the key
 abbrev pub raw_holds : RawRecords → RawFeed → List ℕ → List ℕ → Type 0
 raw_holds raw feed fed area = KeepsFed (kept_bytes raw.kind feed area) feed.count fed
 
@@ -49,6 +52,16 @@ abbrev pub fed_passes : RawKind → RawFeed → List ℕ → Bool
 fed_passes kind feed area =
     nat_le (data_len feed.header) (length area) && has_come kind feed area (data_len feed.header)
 
--- what a check answers of an area of this length, where it passes
-abbrev pub passed_answer : ℕ → Bool → Option Passed
-passed_answer len passes = if passes then Some (record { len = len; old = false }) else None
+-- the same under the old key, which counts beside a key alone
+abbrev pub old_passes : ℕ → Option (List ℕ) → Option (List ℕ) → RawFeed → List ℕ → Bool
+old_passes magic None old feed area = false
+old_passes magic (Some key) None feed area = false
+old_passes magic (Some key) (Some old) feed area =
+    fed_passes (kind_under magic (Some old)) feed area
+
+-- what a check answers of an area of this length: whether it passes under the key, or else under
+-- the old one
+abbrev pub passed_answer : ℕ → Bool → Bool → Option Passed
+passed_answer len true second = Some (record { len = len; old = false })
+passed_answer len false true = Some (record { len = len; old = true })
+passed_answer len false false = None

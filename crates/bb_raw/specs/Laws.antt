@@ -1,4 +1,4 @@
--- What a raw record passes as, and that of its own text.
+-- What a raw record passes as under one key, or under none, and that of its own text.
 use Rattle.std.proofs.Common.{◌≡◌, ℕ, ◌+◌, ◌-◌, ◌%◌, ◌^◌, ◌==◌, ◌<◌, ◌≤◌, Bool, true, false, ◌&&◌, List, ◌++◌, length, take, drop, Option, Some, None, refl, sym, ap, ◌∙◌, append_assoc, arith, cond, nat_le, length-append, take_all, length-drop, inl, inr}
 use Rattle.std.proofs.Math.Nat.{div-one, mod-eq_of_lt}
 use Rattle.std.proofs.lemmas.Nat.{mod_below}
@@ -12,7 +12,7 @@ use Rattle.byteorder.specs.Endian.{little_bytes, little_number}
 use Rattle.byteorder.specs.Numbers.{little_from-bytes, little_from-take, little_number-reads_back}
 use Rattle.bb_base.specs.Crc.{crc_of}
 use Rattle.bb_hmac.proofs.Lengths.{length_hmac_of}
-use Rattle.bb_raw.specs.Raw.{RawKind, area_agrees, area_of, code_len, data_len, hmac_text, coded_text, has_code, has_field, header_agrees, header_text, passes_as_long, raw_agrees, raw_length, raw_passes, raw_text}
+use Rattle.bb_raw.specs.Raw.{RawKind, area_agrees, area_of, code_len, data_len, hmac_text, coded_text, has_code, has_field, header_agrees, header_text, passes_as_long, passes_under, raw_agrees, raw_length, raw_text}
 
 -- what was written as a number's low bytes is a field of that number
 field_written : (len number : ℕ) (rest : List ℕ) →
@@ -256,16 +256,16 @@ text_len kind area rest h =
     ∙ mod-eq_of_lt (omega arith)
 
 pub text_passes : (kind : RawKind) (area rest : List ℕ) → length area ≤ 65535 →
-    raw_passes kind (raw_text kind area ++ rest) ≡ Some area
+    passes_under kind (raw_text kind area ++ rest) ≡ Some area
 text_passes kind area rest h =
     ap (λ n. passes_as_long kind n (raw_text kind area ++ rest)) (text_len kind area rest h)
     ∙ text_as_long kind area rest
 
-pub passed_len : (kind : RawKind) (bytes area : List ℕ) → raw_passes kind bytes ≡ Some area →
+pub passed_len : (kind : RawKind) (bytes area : List ℕ) → passes_under kind bytes ≡ Some area →
     length area ≡ data_len bytes
 passed_len kind bytes area e = whole_as_long kind (data_len bytes) bytes area e
 
-pub passed_whole : (kind : RawKind) (bytes area : List ℕ) → raw_passes kind bytes ≡ Some area →
+pub passed_whole : (kind : RawKind) (bytes area : List ℕ) → passes_under kind bytes ≡ Some area →
     raw_length kind (length area) ≤ length bytes
 passed_whole kind bytes area e =
     let is = passed_len kind bytes area e in
@@ -282,7 +282,7 @@ len_in_front m bytes h =
 
 -- the bytes after a record don't count
 pub front_passes : (kind : RawKind) (m : ℕ) (bytes : List ℕ) →
-    raw_length kind (data_len bytes) ≤ m → raw_passes kind (take m bytes) ≡ raw_passes kind bytes
+    raw_length kind (data_len bytes) ≤ m → passes_under kind (take m bytes) ≡ passes_under kind bytes
 front_passes kind m bytes h =
     let n : ℕ = data_len bytes in
     ap (λ k. passes_as_long kind k (take m bytes)) (len_in_front m bytes (omega arith))

@@ -10,7 +10,12 @@
 --   12 to 15  header_crc   CRC-32 of bytes 0 to 11
 --   16 on     the area
 --   then      with a key   32 bytes, the HMAC-SHA256 of all bytes before it (RFC 2104)
-use Rattle.std.specs.Prelude.{ℕ, ◌+◌, ◌-◌, ◌%◌, ◌^◌, ◌==◌, Bool, false, ◌&&◌, List, [], ◌++◌, length, take, drop, min, nat_le, Option, Some, None, if◌then◌else◌}
+--
+-- While a key is being changed there are two: a record passes under either, and is written under
+-- the first.
+use Rattle.std.specs.Prelude.{ℕ, ◌+◌, ◌-◌, ◌%◌, ◌^◌, ◌==◌, Bool, false, not, ◌&&◌, List, [], ◌∷◌}
+use Rattle.std.specs.Prelude.{◌++◌, length, take, drop, min, nat_le, Option, Some, None, is_some}
+use Rattle.std.specs.Prelude.{if◌then◌else◌}
 use Rattle.std.specs.Str.{bytes_eq}
 use Rattle.byteorder.specs.Endian.{little_number, little_bytes}
 use Rattle.bb_base.specs.Crc.{crc_of}
@@ -22,6 +27,10 @@ use Rattle.bb_hmac.specs.Hmac.{hmac_of}
 pub record RawKind : Type 0 where
   pub magic : ℕ
   pub key : Option (List ℕ)
+
+-- the records of a magic under a key, or under none
+abbrev pub kind_under : ℕ → Option (List ℕ) → RawKind
+kind_under magic key = record { magic = magic; key = key }
 
 -- At a place stand the `len` low bytes of a number. These are all of it: a magic and a CRC have 32
 -- bits, and an area's length 16.
@@ -100,17 +109,54 @@ abbrev pub passes_as_long : RawKind → ℕ → List ℕ → Option (List ℕ)
 passes_as_long kind area_len bytes =
     if raw_agrees kind area_len bytes then Some (area_of area_len bytes) else None
 
--- The area that bytes pass as, if they do: it is as long as the header says. What follows the
--- record doesn't count.
-abbrev pub raw_passes : RawKind → List ℕ → Option (List ℕ)
-raw_passes kind bytes = passes_as_long kind (data_len bytes) bytes
+-- The area that bytes pass as under one key, if they do: it is as long as the header says. What
+-- follows the record doesn't count.
+abbrev pub passes_under : RawKind → List ℕ → Option (List ℕ)
+passes_under kind bytes = passes_as_long kind (data_len bytes) bytes
+
+-- ---- what passes under one of two keys
+
+-- the keys under which records pass: none, one, or two of which the second is old
+abbrev pub keys_of : Option (List ℕ) → Option (List ℕ) → List (List ℕ)
+keys_of None old = []
+keys_of (Some key) None = key ∷ []
+keys_of (Some key) (Some old) = key ∷ old ∷ []
+
+-- the first of two areas that is given
+abbrev pub first_some : Option (List ℕ) → Option (List ℕ) → Option (List ℕ)
+first_some None other = other
+first_some (Some area) other = Some area
+
+-- The area that bytes pass as, if they do: without keys that of a record without a code, else that
+-- of one whose code is right under one of the keys.
+abbrev pub raw_passes : ℕ → List (List ℕ) → List ℕ → Option (List ℕ)
+raw_passes magic [] bytes = passes_under (kind_under magic None) bytes
+raw_passes magic (key ∷ []) bytes = passes_under (kind_under magic (Some key)) bytes
+raw_passes magic (key ∷ old ∷ more) bytes =
+    first_some
+    (passes_under (kind_under magic (Some key)) bytes)
+    (passes_under (kind_under magic (Some old)) bytes)
+
+-- They pass under the old key alone: they pass under both, and not under the first alone.
+abbrev pub raw_is_old : ℕ → List (List ℕ) → List ℕ → Bool
+raw_is_old magic [] bytes = false
+raw_is_old magic (key ∷ []) bytes = false
+raw_is_old magic (key ∷ old ∷ more) bytes =
+    is_some (raw_passes magic (key ∷ old ∷ more) bytes)
+    && not (is_some (raw_passes magic (key ∷ []) bytes))
 
 -- ---- where a record stands
 
--- the raw records of a kind that stand in so many bytes
+-- The raw records that stand in so many bytes. They are written as those of a kind, and pass under
+-- its key and under an old key beside it, if there is one.
 pub record RawRecords : Type 0 where
   pub kind : RawKind
+  pub old : Option (List ℕ)
   pub room : ℕ
+
+-- the keys under which they pass
+abbrev pub record_keys : RawRecords → List (List ℕ)
+record_keys raw = keys_of raw.kind.key raw.old
 
 -- how many bytes the longest record has: the header, the longest area and a code
 abbrev pub record_limit : ℕ
@@ -124,13 +170,21 @@ area_room key room = min area_limit (room - (header_len + code_len key))
 abbrev pub longest_in : RawRecords → ℕ
 longest_in raw = area_room raw.kind.key raw.room
 
+-- there is room for the area whose length the header says
+abbrev pub has_room : RawRecords → List ℕ → Bool
+has_room raw bytes = nat_le (data_len bytes) (longest_in raw)
+
 -- The area that bytes pass as, if they do, and its record stands there. That refuses no bytes that
 -- stand there themselves.
 abbrev pub passes_within : RawRecords → List ℕ → Option (List ℕ)
 passes_within raw bytes =
-    if nat_le (data_len bytes) (longest_in raw) then raw_passes raw.kind bytes else None
+    if has_room raw bytes then raw_passes raw.kind.magic (record_keys raw) bytes else None
 
--- these records as a format, in which nothing is old
+-- and they pass so under the old key alone
+abbrev pub old_within : RawRecords → List ℕ → Bool
+old_within raw bytes = has_room raw bytes && raw_is_old raw.kind.magic (record_keys raw) bytes
+
+-- these records as a format
 abbrev pub raw_form : RawRecords → Form
 raw_form raw = record {
   area_len = longest_in raw;
@@ -139,5 +193,5 @@ raw_form raw = record {
   fits = λ area. nat_le (length area) (longest_in raw);
   text = raw_text raw.kind;
   passes = passes_within raw;
-  aged = λ bytes. false;
+  aged = old_within raw;
 }

@@ -2,10 +2,11 @@ ghost use Rattle.std.specs.Prelude.{◌≡◌, ◌+◌, ◌≤◌, ◌++◌, dro
 ghost use Rattle.std.specs.Str.{bytes_eq};
 ghost use Rattle.bb_base.specs.Crc.{crc_of};
 ghost use Rattle.bb_base.specs.Form.{area_limit};
-ghost use Rattle.bb_raw.specs.Feeding.{passed_answer, fed_passes, has_come, parts_agree};
+ghost use Rattle.bb_raw.specs.Feeding.{passed_answer, fed_passes, has_come, old_passes};
+ghost use Rattle.bb_raw.specs.Feeding.{parts_agree};
 ghost use Rattle.bb_raw.specs.Raw.{area_room, code_len, coded_text, data_len, has_field};
-ghost use Rattle.bb_raw.specs.Raw.{header_agrees, header_len, header_text, hmac_text, raw_form};
-ghost use Rattle.bb_raw.specs.Raw.{record_limit};
+ghost use Rattle.bb_raw.specs.Raw.{header_agrees, header_len, header_text, hmac_text, kind_under};
+ghost use Rattle.bb_raw.specs.Raw.{raw_form, record_limit};
 ghost use Rattle.bb_raw.specs.RoomLaws.{raw_laws};
 
 use crate::feed::{RawFeed, take_in};
@@ -26,11 +27,13 @@ const RECORD_LIMIT: u32 = 65_583;
 /// The raw record of an area of at most `AREA_LIMIT` bytes, under one magic: a header, and the area
 /// (barebox User Manual, State Framework, the backend `raw`). Numbers in it are little endian. With
 /// a key the record ends in the HMAC-SHA256 of all bytes before it, which are 32 bytes more (RFC
-/// 2104), and nothing passes without it. The area that passes is as long as the header says.
+/// 2104), and nothing passes without it. Beside a key there may be an old one: records then pass
+/// under either, and are written under the key. The area that passes is as long as the header says.
 #[derive(Drop)]
 pub struct Raw {
     magic: u32,
     key: Option<Key>,
+    old: Option<Key>,
     // in how many bytes each record stands
     room: u32,
 }
@@ -42,43 +45,80 @@ impl Model for Raw {
 
     ghost view = { λ r. record {
       kind = record { magic = r.magic; key = r.key };
+      old = r.old;
       room = r.room;
     } };
 }
 
 impl Raw {
-    /// The format of areas of any length up to `AREA_LIMIT` bytes, under a key where one is given.
-    pub fn of(magic: u32, key: Option<Key>) -> Raw
-        ensures { result
-            ≡ record { kind = record { magic = magic; key = key }; room = record_limit } }
+    /// The format of areas of any length up to `AREA_LIMIT` bytes, under a key where one is given,
+    /// and under an old one too where that is given beside the key.
+    pub fn of(magic: u32, key: Option<Key>, old: Option<Key>) -> Raw
+        ensures { result ≡ record {
+          kind = record { magic = magic; key = key };
+          old = old;
+          room = record_limit;
+        } }
     {
-        Raw::within(magic, key, RECORD_LIMIT)
+        Raw::within(magic, key, old, RECORD_LIMIT)
     }
 
     /// The same for records that stand in `room` bytes: `area_len` is what they leave for an area,
     /// up to `AREA_LIMIT`, and 0 where they leave nothing. A longer area passes as nothing.
-    pub fn within(magic: u32, key: Option<Key>, room: u32) -> Raw
-        ensures { result ≡ record { kind = record { magic = magic; key = key }; room = room } }
+    pub fn within(magic: u32, key: Option<Key>, old: Option<Key>, room: u32) -> Raw
+        ensures { result ≡ record {
+          kind = record { magic = magic; key = key };
+          old = old;
+          room = room;
+        } }
     {
-        Raw { magic, key, room }
+        Raw { magic, key, old, room }
     }
 }
 
-// What all that was fed passes as.
-fn passed_as(magic: u32, key: &Option<Key>, feed: &RawFeed, area: &[u8]) -> Option<Passed>
+// What all that was fed passes as, under the key or else under the old one.
+fn passed_as(
+    magic: u32,
+    key: &Option<Key>,
+    old: &Option<Key>,
+    feed: &RawFeed,
+    area: &[u8],
+) -> Option<Passed>
     ensures { result ≡ passed_answer (data_len feed.now.header)
-        (fed_passes (record { magic = magic; key = key.now }) feed.now area.now) }
+        (fed_passes (kind_under magic key.now) feed.now area.now)
+        (old_passes magic key.now old.now feed.now area.now) }
 {
     let len = data_len(&feed.header);
     if passes(magic, key, feed, area) {
-        Some(Passed { len, old: false })
-    } else {
-        None
+        return Some(Passed { len, old: false });
+    }
+    if passes_as_old(magic, key, old, feed, area) {
+        return Some(Passed { len, old: true });
+    }
+    None
+}
+
+// Whether the same as below holds under the old key, which counts beside a key alone.
+fn passes_as_old(
+    magic: u32,
+    key: &Option<Key>,
+    old: &Option<Key>,
+    feed: &RawFeed,
+    area: &[u8],
+) -> bool
+    ensures { result ≡ old_passes magic key.now old.now feed.now area.now }
+{
+    match key {
+        None => false,
+        Some(_) => match old {
+            None => false,
+            Some(_) => passes(magic, old, feed, area),
+        },
     }
 }
 
 // Whether a whole record came, of an area as long as its header says, for which there is memory,
-// and its checks hold.
+// and its checks hold under a key, or without one.
 fn passes(magic: u32, key: &Option<Key>, feed: &RawFeed, area: &[u8]) -> bool
     ensures { result ≡ fed_passes (record { magic = magic; key = key.now }) feed.now area.now }
 {
@@ -252,6 +292,6 @@ impl Format for Raw {
     }
 
     fn end(&self, feed: RawFeed, area: &[u8]) -> Option<Passed> {
-        passed_as(self.magic, &self.key, &feed, area)
+        passed_as(self.magic, &self.key, &self.old, &feed, area)
     }
 }

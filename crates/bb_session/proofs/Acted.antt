@@ -14,15 +14,16 @@ use Rattle.bb_shell.specs.Sequence.{refused_in, save_round}
 use Rattle.bb_shell.specs.Rounds.{answer_of, best_of, rounds_by}
 use Rattle.bb_shell.proofs.Answering.{rounds_are}
 use Rattle.bb_layout.specs.Layout.{Laid}
-use Rattle.bb_session.specs.Acting.{Acts, AreRoundsOf, BootsFrom, LastOne, Lists, NoneBest, Plays, SavesAround, SavesOnce, Stops, WorkAnswers, acts_of, around_rounds, boots_of, kept_before, marks_of, needs_table, place_in, rounds_for, save_rounds, save_rounds_around, start_plans_of}
+use Rattle.bb_session.specs.Acting.{Acts, AreRoundsOf, BootsFrom, LastOne, Lists, NoneBest, Plays, SavesAround, SavesOnce, SendsCounts, Stops, WorkAnswers, acts_of, around_rounds, boots_of, counts_copies, kept_before, marks_of, needs_table, place_in, rounds_for, save_rounds, save_rounds_around, start_plans_of}
 use Rattle.bb_session.specs.Around.{slot_of_work, slot_refusal}
 use Rattle.bb_session.specs.Marking.{lost_place}
 use Rattle.bb_session.specs.Installing.{installed_name}
 use Rattle.bb_session.specs.Looking.{look_text}
+use Rattle.bb_session.specs.Rekeying.{CopyCounts}
 use Rattle.bb_plan.specs.Plan.{SessionPlan}
 use Rattle.bb_plan.specs.declared.plan.SlotImage.{SlotImage}
 use Rattle.bb_plan.specs.declared.plan.Work.{Work}
-use Rattle.bb_plan.specs.declared.plan.Work.TheVariants.{Boot, Good, History, Install, Show}
+use Rattle.bb_plan.specs.declared.plan.Work.TheVariants.{Boot, Good, History, Install, Rekey, Show}
 use Rattle.bb_plan.specs.declared.refusal.Refusal.{Refusal}
 use Rattle.bb_session.specs.Session.{LoadAnswer, acts_after, ended_by, loaded_area, refusal_at_end, rounds_after, session_by_acts, shown, text_after, text_unstuck, work_session, work_text}
 use Rattle.bb_session.specs.Doing.{session_on}
@@ -31,6 +32,11 @@ use Rattle.bb_session.proofs.Around.{RanWork, ran_around}
 use Rattle.bb_session.proofs.Plays.{plays_to}
 
 -- ---- a look, or rounds after a load
+
+-- nothing else asks for the counts of its load alone
+pub counts_only : (work : Work) → counts_copies work ≡ true → work ≡ Rekey
+counts_only Rekey counts = refl
+counts_only _ counts = absurd cc
 
 -- a fact about the work of a plan is one of rounds after a load, or of a look
 pub by_work : {P : Type 0} (plan : SessionPlan) (from to : Device) (load : LoadAnswer) (answers : WorkAnswers) →
@@ -51,6 +57,14 @@ as_work plan from to load answers needs work =
     subst (λ n. MatchBool n (IsTableWork plan from to load answers) (IsLookWork plan from to load answers)) (sym needs) work
 
 -- ---- the rounds are those that their answers make
+
+-- whatever the load counted
+pub counts_apart : (plans : List (Option StartPlan)) (acts : Acts) (answers : WorkAnswers) (counts : CopyCounts) →
+    rounds_for plans acts (record answers { counts = counts }) ≡ rounds_for plans acts answers
+counts_apart plans (SavesOnce table) answers counts = refl
+counts_apart plans (BootsFrom targets table) answers counts = refl
+counts_apart plans (Plays script known) answers counts = refl
+counts_apart plans _ answers counts = refl
 
 once_back : (table : List ℕ) (refusal : Option CopyFault) →
     save_rounds table (answer_of (save_round 0 table refusal) ∷ []) ≡ save_round 0 table refusal ∷ []
@@ -95,6 +109,7 @@ acted_rounds plan found (SavesAround first place second) answers =
     let rounds = save_rounds_around first second answers.stuck answers.rounds in
     ended_rounds (refused_in rounds) (text_unstuck answers.stuck (text_after plan found rounds)) (slot_refusal answers.stuck) rounds
 acted_rounds plan found Lists answers = refl
+acted_rounds plan found SendsCounts answers = refl
 acted_rounds plan found acts answers =
     let rounds = rounds_for (start_plans_of plan.work) acts answers in
     ended_rounds (refused_in rounds) (text_after plan found rounds) (refusal_at_end acts rounds) rounds
@@ -204,6 +219,7 @@ table_session plan found answers needs = by (acts_after plan found)
         let rounds = save_rounds_around first second answers.stuck answers.rounds in
         ap (λ text. ended_by (refused_in rounds) (text_unstuck answers.stuck text) (slot_refusal answers.stuck) rounds) (texts rounds)
     by Lists = refl
+    by SendsCounts = refl
     by acts =
         let rounds = rounds_for (start_plans_of plan.work) acts answers in
         ap (λ text. ended_by (refused_in rounds) text (refusal_at_end acts rounds) rounds) (texts rounds)

@@ -1,6 +1,7 @@
 -- The work on a table that was loaded, as the work of a plan.
-use Rattle.std.proofs.Common.{◌≡◌, ℕ, ◌≤◌, Bool, true, List, [], ◌∷◌, length, Option, Some, None, is_none, is_some, Result, Ok, Err, refl, sym, ap, subst, ◌∙◌, if◌then◌else◌, inl, inr}
+use Rattle.std.proofs.Common.{◌≡◌, ℕ, ◌≤◌, Bool, true, false, List, [], ◌∷◌, length, Option, Some, None, is_none, is_some, Result, Ok, Err, refl, sym, ap, subst, ◌∙◌, if◌then◌else◌, inl, inr}
 use Rattle.std.specs.Option.{IfSome, option_and_then, option_map_or}
+use Rattle.std.proofs.lemmas.Bool.{false≢true}
 use Rattle.std.proofs.lemmas.Option.{same_Some}
 use Rattle.bb_actions.specs.Actions.{actions_text, after_all}
 use Rattle.bb_copies.specs.Store.{used_after}
@@ -30,7 +31,7 @@ use Rattle.bb_shell.proofs.Answering.{best_is, best_none}
 use Rattle.bb_shell.proofs.Few.{few_rounds, reset_length}
 use Rattle.bb_shell.proofs.LastRounds.{last_there}
 use Rattle.bb_shell.proofs.Sequence.{none_run, save_run}
-use Rattle.bb_session.specs.Acting.{Acts, AreRoundsOf, BootsFrom, NoneBest, SavesOnce, Stops, WorkAnswers, acts_of, answers_to_rounds, bar_refusal, kept_before, marks_of, needs_table, no_answers, place_in, refusal_by_table, rounds_for, saves_always, start_plans_of}
+use Rattle.bb_session.specs.Acting.{Acts, AreRoundsOf, BootsFrom, NoneBest, SavesOnce, Stops, WorkAnswers, acts_of, answers_to_rounds, bar_refusal, counts_copies, counting, kept_before, marks_of, needs_table, no_answers, place_in, refusal_by_table, rounds_for, saves_always, start_plans_of}
 use Rattle.bb_session.specs.Around.{slot_of_work}
 use Rattle.bb_session.specs.Booting.{end_refusal, end_text}
 use Rattle.bb_session.specs.Doing.{EndsWith, IsDone, IsSavedOver, IsTold, SaveGives, said_of, stores}
@@ -39,8 +40,9 @@ use Rattle.bb_install.proofs.Beside.{beside_copies}
 use Rattle.bb_install.specs.Beside.{IsBesideCopies}
 use Rattle.bb_layout.specs.Kept.{IsLaid}
 use Rattle.bb_plan.specs.Plan.{IsServed, SessionPlan}
+use Rattle.bb_session.specs.Rekeying.{counts_in, rekey_line}
 use Rattle.bb_plan.specs.declared.plan.Work.{Work}
-use Rattle.bb_plan.specs.declared.plan.Work.TheVariants.{Act, Boot, Good, Install, Write}
+use Rattle.bb_plan.specs.declared.plan.Work.TheVariants.{Act, Boot, Good, Install, Rekey, Write}
 use Rattle.bb_plan.specs.Refusal.{copy_refusal}
 use Rattle.bb_plan.specs.declared.refusal.Refusal.{Refusal}
 use Rattle.bb_session.specs.Session.{Session, ended_by, loaded_area, session_by_acts, text_after, worked_on}
@@ -70,19 +72,51 @@ done_later keyed used table work from mid to answers ran later =
     answers.stuck mid to ran.run)
 
 pub done_out : (keyed : Keyed) (work : Work) (from mid to : Device) (area table : List ℕ) (loaded : Loaded)
-    (given : Result Report Refusal) → from.geometry ≡ keyed.layout.geometry → needs_table work ≡ true → 2 ≤ keyed.layout.copies →
+    (given : Result Report Refusal) → from.geometry ≡ keyed.layout.geometry → needs_table work ≡ true → counts_copies work ≡ false → 2 ≤ keyed.layout.copies →
     IfSome (slot_of_work work) (IsBesideCopies (laid_kinds keyed.layout)) → IsLoadedArea keyed area loaded from mid →
     table ≡ convert keyed.layout area → IsLoaded keyed (used_after loaded) from mid (Ok (area_taken area loaded)) →
     IsDone keyed (used_after loaded) table work mid to given → IsWorkedOut keyed work from to given
-done_out keyed work from mid to area table loaded given geometry needs many beside gave shows load did =
+done_out keyed work from mid to area table loaded given geometry needs other many beside gave shows load did =
     let found = area_taken area loaded in
     let plan : SessionPlan = record { keyed = keyed; work = work } in
     let here : IsDone keyed (used_after loaded) (loaded_area keyed.layout found) work mid to given =
     subst (λ (t : List ℕ). IsDone keyed (used_after loaded) t work mid to given) (shows ∙ sym (load_area keyed area loaded from mid gave)) did in
     worked_out keyed work from to (Ok found) here.answers given
     (as_work plan from to (Ok found) here.answers needs
-    (record { middle = mid; used = used_after loaded; geometry = geometry; many = many; beside = beside; loaded = load; ran = here.ran }))
+    (record { middle = mid; used = used_after loaded; geometry = geometry; many = many; beside = beside; loaded = load; ran = here.ran; counted = λ is. absurd (false≢true (sym other ∙ ap counts_copies is)) }))
     (subst (λ (s : Session). EndsWith s given) (sym (table_session plan found here.answers needs)) here.ends)
+
+-- a change of key: the load's counts are given
+pub done_counted : (keyed : Keyed) (work : Work) (from mid : Device) (area : List ℕ) (loaded : Loaded)
+    (given : Result Report Refusal) → from.geometry ≡ keyed.layout.geometry → work ≡ Rekey → 2 ≤ keyed.layout.copies →
+    IsLoadedArea keyed area loaded from mid → IsLoaded keyed (used_after loaded) from mid (Ok (area_taken area loaded)) →
+    IsTold (rekey_line (counts_in loaded)) given → IsWorkedOut keyed work from mid given
+done_counted keyed work from mid area loaded given geometry rekeys many gave load told =
+    let found = area_taken area loaded in
+    let used = used_after loaded in
+    let answers : WorkAnswers = counting (counts_in loaded) in
+    let kept = kept_before Rekey (loaded_area keyed.layout found) in
+    subst (λ (w : Work). IsWorkedOut keyed w from mid given) (sym rekeys)
+    (worked_out keyed Rekey from mid (Ok found) answers given
+    (record {
+      middle = mid;
+      used = used;
+      geometry = geometry;
+      many = many;
+      beside = tt;
+      loaded = load;
+      ran = record {
+        rounds = [];
+        now = used;
+        answers_are = refl;
+        are = refl;
+        run = around_of keyed [] None kept used used [] None mid mid refl (none_run keyed [] kept used mid);
+        played = refl;
+        listed = refl;
+      };
+      counted = λ is. record { area = area; loaded = loaded; gave = gave; taken = refl; counts_are = refl };
+    })
+    (text_ends (rekey_line (counts_in loaded)) [] given told))
 
 -- the load was refused
 pub done_unloaded : (keyed : Keyed) (work : Work) (from to : Device) (fault : CopyFault)
@@ -92,7 +126,7 @@ pub done_unloaded : (keyed : Keyed) (work : Work) (from to : Device) (fault : Co
 done_unloaded keyed work from to fault given geometry needs many beside load is =
     worked_out keyed work from to (Err fault) no_answers given
     (as_work (record { keyed = keyed; work = work }) from to (Err fault) no_answers needs
-    (record { middle = to; used = None; geometry = geometry; many = many; beside = beside; loaded = load; ran = (refl, refl) }))
+    (record { middle = to; used = None; geometry = geometry; many = many; beside = beside; loaded = load; ran = (refl, refl); counted = λ is. tt }))
     (refused_ends (copy_refusal fault) [] given is)
 
 -- ---- rounds that were run

@@ -22,7 +22,7 @@ use Rattle.bb_plan.specs.declared.refusal.Refusal.{Refusal}
 use Rattle.bb_plan.specs.declared.refusal.Refusal.TheVariants.{NoMemory, NoTarget, ScriptFailed, SlotFault, StartFailed, StepLimit}
 use Rattle.bb_plan.specs.declared.status.Status.{Status}
 use Rattle.bb_plan.specs.declared.status.Status.TheVariants as statuses
-use Rattle.bb_session.specs.Acting.{Acts, BootsFrom, LastOne, Lists, LostPlace, NoneBest, Plays, SavesAround, Stops, TableBar, WorkAnswers, bar_refusal, play_of, rounds_for, save_rounds_around, start_plans_of}
+use Rattle.bb_session.specs.Acting.{Acts, BootsFrom, LastOne, Lists, LostPlace, NoneBest, Plays, SavesAround, SendsCounts, Stops, TableBar, WorkAnswers, bar_refusal, play_of, rounds_for, save_rounds_around, start_plans_of}
 use Rattle.bb_session.specs.Around.{slot_refusal}
 use Rattle.bb_session.specs.Booting.{end_refusal}
 use Rattle.bb_session.specs.Scripting.{refusal_by_end}
@@ -115,6 +115,7 @@ session_has P bar failed slot scripts plan found answers refused refusal h = by 
         around_has P bar plan (shown plan.keyed.layout found) (save_rounds_around first second answers.stuck answers.rounds) refused answers.stuck
         (λ at is none. slot at) refusal h
     by Lists refused h = absurd (none-some refusal h)
+    by SendsCounts refused h = absurd (none-some refusal h)
     by acts refused h =
         worked_has P bar plan (shown plan.keyed.layout found) (rounds_for (start_plans_of plan.work) acts answers) refused acts
         (λ targets table round name is last fails. failed name) refusal h

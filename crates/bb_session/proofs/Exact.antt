@@ -6,23 +6,23 @@ use Rattle.std.specs.List.{AllByRecursion}
 use Rattle.std.specs.Option.{IfSome, option_map, option_map_or}
 use Rattle.std.specs.Prelude.{All, not, option_and_then, ◌&&◌}
 use Rattle.std.specs.Str.{bytes_eq}
-use Rattle.std.proofs.lemmas.Bool.{both_ways, cases_lt, cond_both}
+use Rattle.std.proofs.lemmas.Bool.{both_ways, cond_both}
 use Rattle.std.proofs.lemmas.Bool.Decides.{same_from_decides}
 use Rattle.std.proofs.lemmas.List.{length-map}
 use Rattle.std.proofs.lemmas.List.Elements.{All-from_recursion, recursion_from_All}
 use Rattle.std.proofs.lemmas.List.Sums.{count_by-le-length, sum_by-cons}
 use Rattle.std.proofs.lemmas.Slice.Eq.{bytes_eq-Decides}
-use Rattle.bb_base.specs.Faults.{Rose}
 use Rattle.bb_base.specs.Form.{Form}
 use Rattle.bb_bucket.proofs.Runs.{some_of}
 use Rattle.bb_bucket.specs.Blocks.{filled_len}
 use Rattle.bb_bucket.specs.Kind.{BucketKind, part_of}
+use Rattle.bb_copies.specs.Ages.{is_old}
 use Rattle.bb_copies.specs.Buckets.{IsApart, IsOutside}
 use Rattle.bb_copies.specs.Loading.{IsAllKept, IsExact}
 use Rattle.bb_copies.specs.Looking.{IsFresh}
-use Rattle.bb_copies.specs.Passing.{passing_of, passings}
+use Rattle.bb_copies.specs.Passing.{aged_passing_of, passing_of, passings}
 use Rattle.bb_copies.specs.Refreshing.{is_marked}
-use Rattle.bb_copies.specs.Settling.{NothingFails, RoseBy}
+use Rattle.bb_copies.specs.Settling.{NothingFails}
 use Rattle.bb_copies.specs.StandsFor.{IsAreaOrNone}
 use Rattle.bb_copies.specs.declared.answers.CopyFault.{CopyFault}
 use Rattle.bb_copies.specs.declared.answers.Loaded.{Loaded}
@@ -58,26 +58,29 @@ use Rattle.bb_session.proofs.Accounts.{Account, Makes, Writes, account, account_
 use Rattle.bb_session.proofs.Acted.{by_work, look_place, look_rounds, ran_of, session_rounds}
 use Rattle.bb_session.proofs.Around.{acts_stop, joined_only, one_round, slot_parts}
 use Rattle.bb_session.proofs.Barred.{HasNoFault, fault_call}
-use Rattle.bb_session.proofs.Faulting.{rose_by, rose_from, rose_on}
+use Rattle.bb_session.proofs.Faulting.{live_all, rose_from, rose_on}
 use Rattle.bb_session.proofs.Turns.{told_content}
 use Rattle.bb_session.proofs.SlotAccounts.{MakesAround, WroteSlot, makes_before, makes_behind, makes_without, wrote_slot}
 use Rattle.bb_session.proofs.Unrefused.{acts_unstuck, rounds_saved, unrefused, work_gives}
 
 -- ---- one copy
 
-fresh_by : (worn : Bool) (passed : Option (List ℕ)) (area : List ℕ) → (not worn && option_map_or (λ p. bytes_eq p area) passed false) ≡ true →
-    (passed ≡ Some area) × (worn ≡ false)
-fresh_by false (Some other) area h = (ap (λ p. Some p) ((bytes_eq-Decides other area).0 h), refl)
-fresh_by _ _ area h = absurd cc
+fresh_by : (worn old : Bool) (passed : Option (List ℕ)) (area : List ℕ) →
+    (not worn && (not old && option_map_or (λ p. bytes_eq p area) passed false)) ≡ true → (passed ≡ Some area) × ((old ≡ false) × (worn ≡ false))
+fresh_by false false (Some other) area h = (ap (λ p. Some p) ((bytes_eq-Decides other area).0 h), (refl, refl))
+fresh_by _ _ _ area h = absurd cc
 
 decided : (form : Form) (page : ℕ) (kind : BucketKind) (area : List ℕ) (image : Image) →
     Decides (is_fresh form kind area (part_of page kind.region image)) (IsFresh form page kind area image)
 decided form page kind area image = (
   λ is.
-      let here = fresh_by (kind.is_worn (part_of page kind.region image)) (passing_of form page kind image) area is in
-      record { passes = here.0; sound = here.1 },
+      let old = is_old (aged_passing_of form page kind image) in
+      let here = fresh_by (kind.is_worn (part_of page kind.region image)) old (passing_of form page kind image) area is in
+      record { passes = here.0; young = here.1.0; sound = here.1.1 },
   λ fresh.
-      ap (λ w. not w && option_map_or (λ p. bytes_eq p area) (passing_of form page kind image) false) fresh.sound
+      let old = is_old (aged_passing_of form page kind image) in
+      ap (λ w. not w && (not old && option_map_or (λ p. bytes_eq p area) (passing_of form page kind image) false)) fresh.sound
+      ∙ ap (λ o. not o && option_map_or (λ p. bytes_eq p area) (passing_of form page kind image) false) fresh.young
       ∙ ap (λ p. option_map_or (λ q. bytes_eq q area) p false) fresh.passes ∙ (bytes_eq-Decides area area).1 refl,
 )
 
@@ -90,12 +93,6 @@ exact_region form page kind area before after exact =
     (λ e. exact.fresh (fresh.0 e)) (λ e. exact.stale (λ is. both_ways _ e (fresh.1 is)))
 
 -- ---- every copy passes
-
-live_all : (n live before now : ℕ) → RoseBy (n - live) before now → (Rose before now → ⊥) → n ≤ live
-live_all n live before now rose calm = elim (cases_lt live n) [
-  | inl less ↦ absurd (calm (rose_by (n - live) before now (omega arith) rose))
-  | inr all ↦ all
-]
 
 all_pass : (area : List ℕ) (passed : List (Option (List ℕ))) → AllByRecursion (IsAreaOrNone area) passed →
     length passed ≤ count_by is_some passed → AllByRecursion (λ p. p ≡ Some area) passed

@@ -3,6 +3,7 @@ use Rattle.std.proofs.Common.{◌≡◌, ◌≢◌, ℕ, zero, suc, ◌+◌, ◌
 use Rattle.std.specs.List.{range_with_len}
 use Rattle.std.specs.Option.{option_map}
 use Rattle.std.specs.Prelude.{option_and_then, slice_get}
+use Rattle.std.proofs.lemmas.Bool.{cases_lt}
 use Rattle.std.proofs.lemmas.List.{length-map}
 use Rattle.std.proofs.lemmas.List.FromFn.{length-range_with_len}
 use Rattle.std.proofs.lemmas.Option.{slice_get-map}
@@ -43,6 +44,13 @@ rose_from first middle last more rose = omega arith
 
 pub rose_by : (rise before now : ℕ) → 1 ≤ rise → RoseBy rise before now → Rose before now
 rose_by rise before now some rose = omega arith
+
+-- every copy passes, where no call failed for one that doesn't
+pub live_all : (n live before now : ℕ) → RoseBy (n - live) before now → (Rose before now → ⊥) → n ≤ live
+live_all n live before now rose calm = elim (cases_lt live n) [
+  | inl less ↦ absurd (calm (rose_by (n - live) before now (omega arith) rose))
+  | inr all ↦ all
+]
 
 pub rise_from : (rise first middle last : ℕ) → first ≤ middle → RoseBy rise middle last → RoseBy rise first last
 rise_from rise first middle last more rose = omega arith

@@ -1,5 +1,6 @@
 pub mod Accounts
 pub mod Acted
+pub mod Aging
 pub mod Around
 pub mod Barred
 pub mod Done

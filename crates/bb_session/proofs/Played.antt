@@ -25,6 +25,7 @@ use Rattle.bb_plan.specs.declared.refusal.Refusal.{Refusal}
 use Rattle.bb_plan.specs.declared.refusal.Refusal.TheVariants as refusals
 use Rattle.bb_session.specs.Acting.{WorkAnswers, known_at}
 use Rattle.bb_session.specs.Doing.{IsAtHand, IsDone}
+use Rattle.bb_session.specs.Rekeying.{no_counts}
 use Rattle.bb_session.specs.Scripting.{IsReported, ReportsRun, refusal_by_end, status_refusal, text_by_end}
 use Rattle.bb_session.specs.Session.{Session}
 use Rattle.bb_session.specs.Work.{Gives, IsPlay}
@@ -88,7 +89,7 @@ module _ (state : State) (targets : Binding) (plans : List (Option StartPlan)) (
     Ran = called_rounds device over.ran.acts over.ran.called
 
     abbrev Answered : WorkAnswers
-    Answered = record { rounds = map answer_of Ran; grants = over.grants; stuck = None; listed = [] }
+    Answered = record { rounds = map answer_of Ran; grants = over.grants; stuck = None; listed = []; counts = no_counts }
 
     abbrev AsPlayed : IsPlay script Knows over.grants Ran
     AsPlayed =

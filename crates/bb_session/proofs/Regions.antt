@@ -15,7 +15,7 @@ use Rattle.bb_state.specs.declared.any_format.AnyFormat.TheVariants.{Raw}
 use Rattle.bb_session.specs.Exactly.{CopyWrite, calls_in, erases_in, last_area_of, loaded_region, saved_region, writes_of_load, writes_of_saves}
 
 form : Form
-form = any_form (Raw (record { kind = record { magic = 0x12345678; key = None }; room = 56 }))
+form = any_form (Raw (record { kind = record { magic = 0x12345678; key = None }; old = None; room = 56 }))
 
 kind : BucketKind
 kind = stride_kind (record { at = 0; size = 64 })

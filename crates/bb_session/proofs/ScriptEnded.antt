@@ -17,7 +17,7 @@ use Rattle.bb_script_commands.specs.Playing.{ComeFirst, course_at, course_end}
 use Rattle.bb_script_commands.proofs.Fronts.{front_law}
 use Rattle.bb_shell.specs.Boot.{Round}
 use Rattle.bb_shell.specs.Sequence.{refused_in}
-use Rattle.bb_session.specs.Acting.{Acts, LastOne, Lists, LostPlace, NoneBest, Plays, SavesAround, TableBar, WorkAnswers, bar_refusal, play_of, rounds_for, save_rounds_around, start_plans_of}
+use Rattle.bb_session.specs.Acting.{Acts, LastOne, Lists, LostPlace, NoneBest, Plays, SavesAround, SendsCounts, TableBar, WorkAnswers, bar_refusal, play_of, rounds_for, save_rounds_around, start_plans_of}
 use Rattle.bb_session.specs.Scripting.{is_starved, refusal_by_end}
 use Rattle.bb_session.specs.Session.{Answers, LoadAnswer, Session, acts_after, around_session, end_by_acts, ended_status, granted_all, session_by, session_by_acts, shown, work_session, worked_on}
 use Rattle.bb_session.proofs.Barred.{fault_device, is_device_fault}
@@ -101,6 +101,7 @@ acted_script plan found (SavesAround first place second) answers answer scripts 
     (false≢true
     (sym (around_other plan found answers.stuck (save_rounds_around first second answers.stuck answers.rounds)) ∙ ap is_scripts e ∙ scripts))
 acted_script plan found Lists answers answer scripts e = absurd (false≢true (ap is_scripts e ∙ scripts))
+acted_script plan found SendsCounts answers answer scripts e = absurd (false≢true (ap is_scripts e ∙ scripts))
 acted_script plan found acts answers answer scripts e =
     absurd
     (false≢true

@@ -5,7 +5,7 @@ use Rattle.std.proofs.lemmas.Option.{IfSome_then, same_Some, slice_get_within}
 use Rattle.bb_copies.specs.Chronicle.{Content, IsStanding, Loaded, Turn, TurnMakes}
 use Rattle.bb_copies.specs.Loading.{LoadImages, StandsStill}
 use Rattle.bb_copies.specs.Luck.{IsLucky}
-use Rattle.bb_copies.specs.Passing.{passings}
+use Rattle.bb_copies.specs.Passing.{aged_passings, passings}
 use Rattle.bb_copies.specs.StandsFor.{Stands, StandsFor, picked}
 use Rattle.bb_copies.specs.Trail.{IsSince, IsTrail, Milestone, StandsAtOne, milestone_of, next_moment, stages_in, stages_of, trail_of}
 use Rattle.bb_copies.proofs.History.{load_done, load_last, picked_is_first}
@@ -19,13 +19,13 @@ use Rattle.bb_flash.specs.declared.plan.Plan.{Plan as StartPlan}
 use Rattle.bb_flash.specs.declared.region.Region.{Region}
 use Rattle.bb_flash.proofs.Counting.{counted_joined_at}
 use Rattle.bb_state.specs.Keyed.{Keyed}
-use Rattle.bb_state.specs.Kinds.{laid_form, laid_kinds, laid_passings}
+use Rattle.bb_state.specs.Kinds.{laid_aged, laid_form, laid_kinds, laid_passings}
 use Rattle.bb_shell.specs.Boot.{Round}
 use Rattle.bb_shell.specs.Counting.{target_started}
 use Rattle.bb_shell.specs.Stages.{IsCounted as IsCountedHere, IsSettled, first_area, made_of, saves_of, stages_reached}
 use Rattle.bb_shell.proofs.Made.{made_least, made_most, made_started}
 use Rattle.bb_shell.proofs.Trails.{fair_from, in_order}
-use Rattle.bb_session.specs.Looking.{passed_in}
+use Rattle.bb_session.specs.Looking.{aged_in, passed_in}
 use Rattle.bb_session.specs.Session.{loaded_area}
 use Rattle.bb_session.specs.SessionTurns.{HasEntryTrail, HasTrail, IsCounted, IsFairRun, LeadsTo}
 use Rattle.bb_session.specs.Work.{IsLoaded, IsLoadedAs}
@@ -78,7 +78,7 @@ module _ (keyed : Keyed) (page : ℕ) (before : Content) where
   -- so it is in each image that counts
   abbrev pub Stays : Told → Told → Type 0
   Stays first last =
-      (image : Image) → Counts (IsLucky (passed_in keyed page)) page last (moment first) image →
+      (image : Image) → Counts (IsLucky (aged_in keyed page)) page last (moment first) image →
       Stands First (passed_in keyed page image) before.areas before.acked
 
   -- a content whose copies pass this and that stands for a list
@@ -110,7 +110,7 @@ module _ (keyed : Keyed) (from mid : Device) (first middle : Told) (e : from.tol
   Page = keyed.layout.geometry.page
 
   abbrev Luck : Change → Image → Type 0
-  Luck = IsLucky (laid_passings keyed)
+  Luck = IsLucky (laid_aged keyed)
 
   abbrev Empty : List ℕ
   Empty = first_area
@@ -127,7 +127,7 @@ module _ (keyed : Keyed) (from mid : Device) (first middle : Told) (e : from.tol
   still_here : EachCounted Luck (λ x z. StandsStill (laid_passings keyed x) (laid_passings keyed z)) from mid
   still_here =
       subst
-      (λ p. EachCounted (IsLucky (passings (laid_form keyed) p (laid_kinds keyed.layout)))
+      (λ p. EachCounted (IsLucky (aged_passings (laid_form keyed) p (laid_kinds keyed.layout)))
       (λ x z. StandsStill (passings (laid_form keyed) p (laid_kinds keyed.layout) x) (passings (laid_form keyed) p (laid_kinds keyed.layout) z)) from mid)
       at_page images
 

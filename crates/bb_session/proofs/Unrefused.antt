@@ -1,16 +1,27 @@
 -- The work of a plan that met no fault of the device: no part of it was refused, and each save that
 -- was begun answered Ok. What its load gave, which copies it may name, and what its session is.
-use Rattle.std.proofs.Common.{◌≡◌, ◌≢◌, ◌⊎◌, ℕ, ◌≤◌, Bool, true, false, List, [], ◌∷◌, map, Option, Some, None, is_none, is_some, Result, Ok, Err, IfErr, refl, sym, ap, subst, ◌∙◌, inl, inr, arith}
+use Rattle.std.proofs.Common.{◌≡◌, ◌≢◌, ◌⊎◌, ℕ, zero, suc, ◌≤◌, Bool, true, false, List, [], ◌∷◌, count_by, length, map, Option, Some, None, is_none, is_some, Result, Ok, Err, IfErr, if◌then◌else◌, refl, sym, ap, subst, ◌∙◌, inl, inr, arith}
 use Rattle.std.specs.List.{list_all}
 use Rattle.std.specs.Option.{IfSome, option_map, option_map_or}
 use Rattle.std.specs.Prelude.{⊤}
+use Rattle.std.proofs.lemmas.List.{length-map}
+use Rattle.std.proofs.lemmas.List.Sums.{count_by-le-length}
 use Rattle.std.proofs.lemmas.Bool.{and_from, both_ways, false≢true, false_from_ne_true, not_from_false}
 use Rattle.bb_base.specs.Faults.{Rose}
+use Rattle.bb_chooser.specs.Binding.{Binding}
+use Rattle.bb_chooser.specs.Counting.{disable_of, enable_of, mark_good_of}
+use Rattle.bb_copies.specs.Loading.{IsAllKept}
+use Rattle.bb_copies.specs.Passing.{passing_of}
+use Rattle.bb_copies.specs.Settling.{RoseBy}
 use Rattle.bb_copies.specs.declared.answers.CopyFault.{CopyFault}
 use Rattle.bb_copies.specs.declared.answers.CopyFault.TheVariants as faults
-use Rattle.bb_flash.specs.Device.{Device, content}
+use Rattle.bb_copies.specs.declared.answers.Loaded.{Loaded}
+use Rattle.bb_copies.specs.declared.answers.Loaded.TheVariants.{Copy, NoCopy}
+use Rattle.bb_flash.specs.Device.{Device, Told, content}
 use Rattle.bb_flash.specs.Image.{Image}
+use Rattle.bb_layout.specs.Layout.{Laid}
 use Rattle.bb_state.specs.Keyed.{Keyed}
+use Rattle.bb_state.specs.Kinds.{laid_form, laid_kinds}
 use Rattle.bb_interpreter.specs.declared.run.ScriptEnd.{ScriptEnd}
 use Rattle.bb_interpreter.specs.declared.run.ScriptEnd.TheVariants as ends
 use Rattle.bb_script.specs.Tree.{ScriptTree}
@@ -19,12 +30,13 @@ use Rattle.bb_script_commands.specs.Playing.{IsPlayed, most_script_rounds, scrip
 use Rattle.bb_script_commands.specs.Scripts.{EndsBy}
 use Rattle.bb_script_commands.proofs.FewRounds.{few_law, saved_none}
 use Rattle.bb_script_commands.proofs.Unfailing.{unfailing_played, unstarted_unfailed}
-use Rattle.bb_shell.specs.Boot.{Round}
+use Rattle.bb_shell.specs.Boot.{Round, first_table}
 use Rattle.bb_flash.specs.declared.plan.Plan.{Plan as StartPlan}
 use Rattle.bb_shell.specs.Counting.{target_started}
 use Rattle.bb_shell.specs.Sequence.{refused_in, save_round}
-use Rattle.bb_shell.specs.Rounds.{RoundAnswer, answer_of}
+use Rattle.bb_shell.specs.Rounds.{RoundAnswer, answer_of, best_of}
 use Rattle.bb_shell.specs.Running.{refusal_of}
+use Rattle.bb_shell.proofs.Joins.{there}
 use Rattle.bb_shell.proofs.Joined.{goes_unrefused, started_unrefused}
 use Rattle.bb_shell.proofs.Made.{AllSaved, all_saved}
 use Rattle.bb_shell.proofs.Sound.{NoneFailed, good_rounds, none_failed, sounds, unstarted_fine}
@@ -32,21 +44,25 @@ use Rattle.bb_plan.specs.Plan.{SessionPlan}
 use Rattle.bb_plan.specs.Refusal.{status_of, IsSendableRefusal, copy_refusal}
 use Rattle.bb_plan.specs.declared.refusal.Refusal.{Refusal}
 use Rattle.bb_plan.specs.declared.status.Status.TheVariants.{Done}
-use Rattle.bb_session.specs.Acting.{Acts, ArePlayedRounds, AreRoundsOf, BootsFrom, IsSavedAround, Lists, Plays, SavesAround, SavesOnce, Stops, WorkAnswers, around_rounds, listing, most_rounds, needs_table, place_in, play_of, rounds_for, save_rounds_around, sound_answers, start_plans_of}
+use Rattle.bb_session.specs.Acting.{Acts, ArePlayedRounds, AreRoundsOf, BootsFrom, IsSavedAround, LastOne, Lists, NoneBest, Plays, SavesAround, SavesOnce, SendsCounts, Stops, WorkAnswers, acts_of, around_rounds, counts_copies, listing, marks_of, most_rounds, needs_table, place_in, play_of, rounds_for, save_rounds_around, sound_answers, start_plans_of}
 use Rattle.bb_session.specs.Around.{slot_refusal}
+use Rattle.bb_session.specs.Installing.{installed_name}
 use Rattle.bb_session.specs.Looking.{first_found, listed_by, passed_in}
+use Rattle.bb_session.specs.Marking.{lost_place}
+use Rattle.bb_session.specs.Rekeying.{CopyCounts, counts_in, no_counts, rekey_line}
 use Rattle.bb_session.specs.Scripting.{refusal_by_end}
-use Rattle.bb_session.specs.Session.{LoadAnswer, Session, acts_after, answers_after, around_session, done_with, ended_by, played_session, refusal_at_end, session_by_acts, shown, text_after, text_unstuck, work_session, worked_on}
-use Rattle.bb_session.specs.Work.{IsListed, IsLoadedAs, IsPlay, IsPlayOf, IsTableWork, IsWork, IsWorkedOut}
-use Rattle.bb_session.proofs.Acted.{by_work, ran_of, rounds_back, session_after}
+use Rattle.bb_session.specs.Session.{LoadAnswer, Session, acts_after, answers_after, around_session, counts_for, counts_when_sound, done_with, ended_by, loaded_area, played_session, refusal_at_end, session_by_acts, shown, text_after, text_unstuck, work_session, worked_on}
+use Rattle.bb_session.specs.Work.{IsListed, IsLoadedArea, IsLoadedAs, IsLoadedFor, IsPlay, IsPlayOf, IsTableWork, IsWork, IsWorkedOut, area_taken}
+use Rattle.bb_session.proofs.Acted.{by_work, counts_apart, ran_of, rounds_back, session_after}
 use Rattle.bb_session.proofs.Around.{acts_stop}
 use Rattle.bb_session.proofs.Barred.{HasMemory, HasNoFault, fault_call, is_call_fault, is_device_fault, is_memory}
-use Rattle.bb_session.proofs.Faulting.{FaultTells}
+use Rattle.bb_session.proofs.Faulting.{FaultTells, copies_are, live_all, rose_by, rose_on}
 use Rattle.bb_session.proofs.Faults.{work_explains, work_stuck}
 use Rattle.bb_session.proofs.Kept.{load_found}
 use Rattle.bb_session.proofs.Plays.{ended_play, plays_session, plays_to}
+use Rattle.bb_plan.specs.declared.plan.SlotImage.{SlotImage}
 use Rattle.bb_plan.specs.declared.plan.Work.{Work}
-use Rattle.bb_plan.specs.declared.plan.Work.TheVariants.{History, Show}
+use Rattle.bb_plan.specs.declared.plan.Work.TheVariants.{Boot, Good, History, Install, Rekey, Show}
 use Rattle.bb_plan.specs.declared.refusal.Refusal.TheVariants as refusals
 use Rattle.bb_session.specs.declared.report.Report.{Report}
 
@@ -102,6 +118,7 @@ acted_saved : (plan : SessionPlan) (found : Option (List ℕ)) (acts : Acts) (an
     AreRoundsOf (start_plans_of plan.work) acts rounds → IsPlayOf acts answers rounds → HasNoFault (session_by_acts plan found acts answers) → AllSaved rounds
 acted_saved plan found (Stops bar) answers rounds is are played whole = subst AllSaved (sym are) tt
 acted_saved plan found Lists answers rounds is are played whole = subst AllSaved (sym are) tt
+acted_saved plan found SendsCounts answers rounds is are played whole = subst AllSaved (sym are) tt
 acted_saved plan found (Plays script known) answers rounds is are played whole =
     all_saved rounds are.stops
     (script_unrefused played.end rounds played.ending
@@ -287,23 +304,96 @@ around_same plan found first second None rounds are saved whole =
 abbrev pub sound_with : List ℕ → WorkAnswers → WorkAnswers
 sound_with text answers = record answers { listed = text }
 
-acted_same : (plan : SessionPlan) (found : Option (List ℕ)) (acts : Acts) (answers : WorkAnswers) (text : List ℕ) (rounds : List Round) → answers.rounds ≡ map answer_of rounds →
-    AreRoundsOf (start_plans_of plan.work) acts rounds → IsPlayOf acts answers rounds → answers.listed ≡ text → AllSaved rounds →
+acted_same : (plan : SessionPlan) (found : Option (List ℕ)) (acts : Acts) (answers : WorkAnswers) (text : List ℕ) (counts : CopyCounts) (rounds : List Round) → answers.rounds ≡ map answer_of rounds →
+    AreRoundsOf (start_plans_of plan.work) acts rounds → IsPlayOf acts answers rounds → answers.listed ≡ text → (acts ≡ SendsCounts → answers.counts ≡ counts) → AllSaved rounds →
     (target_started (rounds_for (start_plans_of plan.work) acts (sound_with text (sound_answers acts))) ≡ None) ⊎ NoneFailed rounds →
     HasNoFault (session_by_acts plan found acts answers) → HasMemory (session_by_acts plan found acts answers) →
-    session_by_acts plan found acts answers ≡ session_by_acts plan found acts (sound_with text (sound_answers acts))
-acted_same plan found Lists answers text rounds is are played listed saved calm whole memory = ap done_with listed
-acted_same plan found (Plays script known) answers text rounds is are played listed saved calm whole memory =
+    session_by_acts plan found acts answers ≡ session_by_acts plan found acts (sound_with text (record (sound_answers acts) { counts = counts }))
+acted_same plan found Lists answers text counts rounds is are played listed counted saved calm whole memory = ap done_with listed
+acted_same plan found SendsCounts answers text counts rounds is are played listed counted saved calm whole memory =
+    ap (λ (c : CopyCounts). done_with (rekey_line c)) (counted refl)
+acted_same plan found (Plays script known) answers text counts rounds is are played listed counted saved calm whole memory =
     played_same script known answers rounds is are played saved calm memory
-acted_same plan found (SavesAround first place second) answers text rounds is are played listed saved calm whole memory =
+acted_same plan found (SavesAround first place second) answers text counts rounds is are played listed counted saved calm whole memory =
     let back = rounds_back (start_plans_of plan.work) (SavesAround first place second) answers rounds is are played in
     ap (λ (r : List Round). around_session plan found answers.stuck r) back
     ∙ around_same plan found first second answers.stuck rounds played.1 saved
     (subst (λ (r : List Round). HasNoFault (around_session plan found answers.stuck r)) back whole)
-acted_same plan found acts answers text rounds is are played listed saved calm whole memory =
+acted_same plan found acts answers text counts rounds is are played listed counted saved calm whole memory =
     let plans = start_plans_of plan.work in
     ap (λ (r : List Round). worked_on plan found acts r)
-    (rounds_back plans acts answers rounds is are played ∙ sym (sound_rounds plans acts rounds tt are saved calm))
+    (rounds_back plans acts answers rounds is are played
+    ∙ sym (counts_apart plans acts (sound_answers acts) counts ∙ sound_rounds plans acts rounds tt are saved calm))
+
+-- ---- the counts of its load
+
+-- a change of key alone asks for them
+bar_else : (none : Bool) (targets : Binding) (table : List ℕ) → (if none then Stops NoneBest else BootsFrom targets table) ≡ SendsCounts → ⊥
+bar_else true targets table is = cc
+bar_else false targets table is = cc
+
+install_else : (none : Bool) (name : List ℕ) (first : List ℕ) (place : SlotImage) (second : List ℕ) →
+    (if none then Stops (LastOne name) else SavesAround first place second) ≡ SendsCounts → ⊥
+install_else true name first place second is = cc
+install_else false name first place second is = cc
+
+mark_else : (lost : Option ℕ) (table : List ℕ) → marks_of lost table ≡ SendsCounts → ⊥
+mark_else None table is = cc
+mark_else (Some place) table is = cc
+
+counts_asked : (layout : Laid) (work : Work) (table : List ℕ) → acts_of layout work table ≡ SendsCounts → work ≡ Rekey
+counts_asked layout Rekey table is = refl
+counts_asked layout (Good targets) table is = absurd (mark_else (lost_place targets table) (mark_good_of targets table) is)
+counts_asked layout (Boot targets cause plans) table is =
+    let first = first_table targets cause true table in
+    absurd (bar_else (is_none (best_of targets first)) targets first is)
+counts_asked layout (Install targets target place) table is =
+    let disabled = disable_of targets table target in
+    absurd (install_else (is_none (best_of targets disabled)) (installed_name targets target) disabled place (enable_of targets disabled target) is)
+counts_asked layout _ table is = absurd cc
+
+-- no copy is old where no call failed
+none_old : (old before now : ℕ) → RoseBy old before now → (Rose before now → ⊥) → old ≡ 0
+none_old zero before now rose calm = refl
+none_old (suc old) before now rose calm = absurd (calm (rose_by (suc old) before now (omega arith) rose))
+
+-- all copies pass then
+all_live : (keyed : Keyed) (area : List ℕ) (used live : ℕ) (from to : Device) →
+    IsAllKept (laid_form keyed) (laid_kinds keyed.layout) area used live from to → (Rose from.faults to.faults → ⊥) → (image : Image) →
+    content to ≡ Some image → live ≡ keyed.layout.copies
+all_live keyed area used live from to kept calm image held =
+    let passed = passed_in keyed from.geometry.page image in
+    let most = live_all (length (laid_kinds keyed.layout)) live from.faults to.faults kept.dead calm in
+    let counted : live ≡ count_by is_some passed = (kept.kept image held).counted in
+    let size : length passed ≡ length (laid_kinds keyed.layout) =
+    length-map (laid_kinds keyed.layout) (λ kind. passing_of (laid_form keyed) from.geometry.page kind image) in
+    omega (arith, most, counted, size, count_by-le-length is_some passed, copies_are keyed)
+
+abbrev Counted : ℕ → ℕ → CopyCounts
+Counted live old = record { live = live; old = old }
+
+counts_sound : (keyed : Keyed) (area : List ℕ) (loaded : Loaded) (from to : Device) → IsLoadedArea keyed area loaded from to →
+    (Rose from.faults to.faults → ⊥) → (image : Image) → content to ≡ Some image →
+    counts_in loaded ≡ counts_for keyed.layout (area_taken area loaded)
+counts_sound keyed area (Copy used live len old) from to gave calm image held =
+    let all = all_live keyed area used live from to gave.gives.exit calm image held in
+    let none = none_old old from.faults to.faults gave.ages.rose calm in
+    ap (λ (l : ℕ). Counted l old) all ∙ ap (Counted keyed.layout.copies) none
+counts_sound keyed area NoCopy from to gave calm image held = refl
+
+work_counts : (plan : SessionPlan) (from to : Device) (found : Option (List ℕ)) (answers : WorkAnswers) →
+    IsTableWork plan from to (Ok found) answers → (image : Image) → content from ≡ Some image → (Rose from.faults to.faults → ⊥) →
+    acts_after plan found ≡ SendsCounts → answers.counts ≡ counts_when_sound plan found
+work_counts plan from to found answers work image held calm is =
+    let rekeys = counts_asked plan.keyed.layout plan.work (loaded_area plan.keyed.layout found) is in
+    let counted : IsLoadedFor plan.keyed answers.counts from work.middle found = work.counted rekeys in
+    let behind = ran_of work in
+    let still : Rose from.faults work.middle.faults → ⊥ = λ rose. calm (rose_on from.faults work.middle.faults to.faults rose behind.later.faults) in
+    let middle = there (λ (t : Told). t.image) from.told work.middle.told image work.loaded.later.told held in
+    counted.counts_are
+    ∙ counts_sound plan.keyed counted.area counted.loaded from work.middle counted.gave still middle.0 middle.1
+    ∙ ap (counts_for plan.keyed.layout) (sym counted.taken)
+    ∙ sym (ap (λ (w : Work). if counts_copies w then counts_for plan.keyed.layout found else no_counts) rekeys)
 
 -- a work on a table lists nothing
 table_listed : (work : Work) (keyed : Keyed) (page : ℕ) (image : Image) → needs_table work ≡ true → [] ≡ listed_by work keyed page image
@@ -332,19 +422,23 @@ sound_over plan page image load = sound_with (listed_by plan.work plan.keyed pag
 
 pub work_same : (plan : SessionPlan) (from to : Device) (found : Option (List ℕ)) (answers : WorkAnswers) → IsWork plan from to (Ok found) answers →
     HasNoFault (work_session plan (Ok found) answers) → HasMemory (work_session plan (Ok found) answers) →
-    (image : Image) → content from ≡ Some image →
+    (image : Image) → content from ≡ Some image → (Rose from.faults to.faults → ⊥) →
     IsCalm from to (work_session plan (Ok found) (sound_over plan from.geometry.page image (Ok found))) →
     work_session plan (Ok found) answers ≡ work_session plan (Ok found) (sound_over plan from.geometry.page image (Ok found))
-work_same plan from to found answers work whole memory image held calm =
+work_same plan from to found answers work whole memory image held still calm =
     let text = listed_by plan.work plan.keyed from.geometry.page image in
     by_work plan from to (Ok found) answers work
     (λ needs done.
-    acted_same plan (shown plan.keyed.layout found) (acts_after plan found) answers text done.ran.rounds done.ran.answers_are done.ran.are done.ran.played
+    acted_same plan (shown plan.keyed.layout found) (acts_after plan found) answers text (counts_when_sound plan found) done.ran.rounds
+    done.ran.answers_are done.ran.are done.ran.played
     (done.ran.listed ∙ table_listed plan.work plan.keyed from.geometry.page image needs)
+    (work_counts plan from to found answers done image held still)
     (rounds_saved done whole)
     (elim calm [
       | inl unstarted ↦
-          inl (sym (ap target_started (session_after plan found (sound_over plan from.geometry.page image (Ok found)))) ∙ unstarted)
+          let acts = acts_after plan found in
+          let apart = counts_apart (start_plans_of plan.work) acts (sound_with text (sound_answers acts)) (counts_when_sound plan found) in
+          inl (ap target_started (sym apart ∙ sym (session_after plan found (sound_over plan from.geometry.page image (Ok found)))) ∙ unstarted)
       | inr none ↦
           inr (none_failed done.ran.rounds done.middle.start_faults to.start_faults (ran_of done).start_faults
           (λ r. none (subst (λ k. Rose k to.start_faults) done.loaded.starts.start_faults r)))

@@ -19,7 +19,7 @@ use Rattle.bb_shell.proofs.Joins.{still_outside}
 use Rattle.bb_plan.specs.Plan.{SessionPlan}
 use Rattle.bb_shell.specs.Stages.{first_area}
 use Rattle.bb_session.specs.Acting.{WorkAnswers, kept_before, saves_always, start_plans_of}
-use Rattle.bb_session.specs.Looking.{passed_in}
+use Rattle.bb_session.specs.Looking.{aged_in, passed_in}
 use Rattle.bb_session.specs.Session.{LoadAnswer, loaded_area}
 use Rattle.bb_session.specs.SessionTurns.{HasTrail, HasTrails, IsFairRun, LeadsOn, LeadsTo, table_turn, turn_of}
 use Rattle.bb_session.specs.Work.{IsTableWork, IsWork}
@@ -57,8 +57,8 @@ look_turned keyed from to quiet = λ first e last f before is stands.
     let kept = reads_untouched from to quiet.told first e last f in
     let same : moment first ≡ moment last = sym (ap length kept.changes) in
     let stays : Stays keyed page before first last = λ image counts.
-    let now = counts_now (IsLucky (passed_in keyed page)) page last image
-    (subst (λ m. Counts (IsLucky (passed_in keyed page)) page last m image) same counts) in
+    let now = counts_now (IsLucky (aged_in keyed page)) page last image
+    (subst (λ m. Counts (IsLucky (aged_in keyed page)) page last m image) same counts) in
     record { marks = before.marks; stands = standing_at keyed page before image (is ∙ ap (passed_in keyed page) (sym (now ∙ kept.image))) stands } in
     record {
       leads = stays_leads keyed page before Looked first last (record { areas = refl; acked = refl }) stays;

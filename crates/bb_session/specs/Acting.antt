@@ -18,11 +18,12 @@ use Rattle.bb_script_commands.specs.Held.{Known}
 use Rattle.bb_script_commands.specs.Playing.{AreScriptRounds, Played, most_script_rounds, script_played, script_rounds}
 use Rattle.bb_plan.specs.declared.plan.SlotImage.{SlotImage}
 use Rattle.bb_plan.specs.declared.plan.Work.{Work}
-use Rattle.bb_plan.specs.declared.plan.Work.TheVariants.{Act, Boot, Good, History, Install, Run, Show, Write}
+use Rattle.bb_plan.specs.declared.plan.Work.TheVariants.{Act, Boot, Good, History, Install, Rekey, Run, Show, Write}
 use Rattle.bb_plan.specs.declared.refusal.Refusal.{Refusal}
 use Rattle.bb_plan.specs.declared.refusal.Refusal.TheVariants as refusals
 use Rattle.bb_session.specs.Installing.{installed_name}
 use Rattle.bb_session.specs.Marking.{lost_place}
+use Rattle.bb_session.specs.Rekeying.{CopyCounts, no_counts}
 
 -- ---- what it is to do
 
@@ -31,6 +32,11 @@ abbrev pub needs_table : Work → Bool
 needs_table Show = false
 needs_table History = false
 needs_table _ = true
+
+-- of a change of key nothing is asked but the counts of its load
+abbrev pub counts_copies : Work → Bool
+counts_copies Rekey = true
+counts_copies _ = false
 
 -- what was loaded for it, if a copy passed; a look loads nothing
 abbrev pub taken_by : Work → Option (List ℕ) → Option (List ℕ)
@@ -43,12 +49,13 @@ pub data TableBar : Type 0 where
   NoneBest : TableBar
   LastOne : List ℕ → TableBar
 
--- nothing is saved; so it is where a history is sent; the table ends the session; one table is
--- saved; one is saved, then a slot is written, and then another table is saved; it is booted from a
--- table on; or a script is run
+-- nothing is saved; so it is where a history is sent, or the counts of the load; the table ends the
+-- session; one table is saved; one is saved, then a slot is written, and then another table is
+-- saved; it is booted from a table on; or a script is run
 pub data Acts : Type 0 where
   SavesNone : Acts
   Lists : Acts
+  SendsCounts : Acts
   Stops : TableBar → Acts
   SavesOnce : List ℕ → Acts
   SavesAround : List ℕ → SlotImage → List ℕ → Acts
@@ -84,6 +91,7 @@ known_at layout targets cause plans table = record {
 abbrev pub acts_of : Laid → Work → List ℕ → Acts
 acts_of layout Show table = SavesNone
 acts_of layout History table = Lists
+acts_of layout Rekey table = SendsCounts
 acts_of layout (Write area) table = SavesOnce area
 acts_of layout (Act actions) table = SavesOnce (after_all table actions)
 acts_of layout (Good targets) table =
@@ -131,12 +139,14 @@ refusal_by_table _ = None
 -- often it was granted before it was refused, where it was, and none for every other work. `stuck`
 -- is where the call on a slot began that failed, where one did. A history has a text that comes of
 -- what it reads: `listed` is that text, or as much of it as there was when a read failed, and
--- nothing of every other work.
+-- nothing of every other work. `counts` are those of the load where they are asked for, and nothing
+-- is said of them for every other work.
 pub record WorkAnswers : Type 0 where
   pub rounds : List RoundAnswer
   pub grants : Option ℕ
   pub stuck : Option ℕ
   pub listed : List ℕ
+  pub counts : CopyCounts
 
 -- to a work that ran these rounds, and is no script
 abbrev pub answers_to_rounds : List Round → WorkAnswers
@@ -145,6 +155,7 @@ answers_to_rounds rounds = record {
   grants = None;
   stuck = None;
   listed = [];
+  counts = no_counts;
 }
 
 abbrev pub no_answers : WorkAnswers
@@ -152,7 +163,13 @@ no_answers = answers_to_rounds []
 
 -- to a work that only reads, of which this text comes
 abbrev pub listing : List ℕ → WorkAnswers
-listing text = record { rounds = []; grants = None; stuck = None; listed = text }
+listing text =
+    record { rounds = []; grants = None; stuck = None; listed = text; counts = no_counts }
+
+-- to a change of key, whose load gave these counts
+abbrev pub counting : CopyCounts → WorkAnswers
+counting counts =
+    record { rounds = []; grants = None; stuck = None; listed = []; counts = counts }
 
 -- the play of a script by these answers
 abbrev pub play_of : ScriptTree → Known → WorkAnswers → Course Played (Unit {0})
@@ -200,6 +217,7 @@ pub record ArePlayedRounds (known : Known) (rounds : List Round) : Type 0 where
 abbrev pub AreRoundsOf : List (Option StartPlan) → Acts → List Round → Type 0
 AreRoundsOf plans SavesNone rounds = rounds ≡ []
 AreRoundsOf plans Lists rounds = rounds ≡ []
+AreRoundsOf plans SendsCounts rounds = rounds ≡ []
 AreRoundsOf plans (Stops bar) rounds = rounds ≡ []
 AreRoundsOf plans (SavesOnce table) rounds = IsSavedOnce table rounds
 AreRoundsOf plans (SavesAround first place second) rounds =
@@ -222,6 +240,7 @@ save_rounds_around first second stuck (answer ∷ answers) =
 abbrev pub rounds_for : List (Option StartPlan) → Acts → WorkAnswers → List Round
 rounds_for plans SavesNone answers = []
 rounds_for plans Lists answers = []
+rounds_for plans SendsCounts answers = []
 rounds_for plans (Stops bar) answers = []
 rounds_for plans (SavesOnce table) answers = save_rounds table answers.rounds
 rounds_for plans (SavesAround first place second) answers =
@@ -237,6 +256,7 @@ rounds_for plans (Plays script known) answers =
 abbrev pub most_rounds : Acts → ℕ
 most_rounds SavesNone = 0
 most_rounds Lists = 0
+most_rounds SendsCounts = 0
 most_rounds (Stops bar) = 0
 most_rounds (SavesOnce table) = 1
 most_rounds (SavesAround first place second) = 2
@@ -251,4 +271,5 @@ sound_answers acts =
       grants = None;
       stuck = None;
       listed = [];
+      counts = no_counts;
     }

@@ -7,7 +7,9 @@ use Rattle.bb_base.specs.Form.{Form}
 use Rattle.bb_bucket.specs.Blocks.{filled_len}
 use Rattle.bb_bucket.specs.Calls.{told_but_reads}
 use Rattle.bb_bucket.specs.Kind.{BucketKind, part_of}
+use Rattle.bb_copies.specs.Ages.{is_old}
 use Rattle.bb_copies.specs.Buckets.{EachCopy}
+use Rattle.bb_copies.specs.Passing.{aged_of}
 use Rattle.bb_flash.specs.declared.geometry.Geometry.{Geometry}
 use Rattle.bb_flash.specs.Device.{Device, LeavesStarts, Told, content, moment}
 use Rattle.bb_flash.specs.Image.{Image, IsBlank}
@@ -24,12 +26,13 @@ use Rattle.bb_session.specs.Session.{acts_after, loaded_area, work_session}
 
 -- ---- the region of one copy
 
--- its record passes this area, and no page of it is Worn
+-- its record passes this area, not as an old one alone, and no page of it is Worn
 abbrev pub is_fresh : Form → BucketKind → List ℕ → Image → Bool
 is_fresh form kind area region =
     not (kind.is_worn region)
+    && (not (is_old (option_and_then (aged_of form) (kind.candidate_of region)))
     && option_map_or (λ passed. bytes_eq passed area)
-    (option_and_then form.passes (kind.candidate_of region)) false
+    (option_and_then form.passes (kind.candidate_of region)) false)
 
 -- after a load that took this area, if it took one: a copy that isn't fresh is written
 abbrev pub loaded_region : Form → BucketKind → Option (List ℕ) → Image → Image

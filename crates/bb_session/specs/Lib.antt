@@ -1,5 +1,6 @@
 -- Definitions that contracts cite. A reader has to believe all of them.
 pub mod Acting
+pub mod Aging
 pub mod Around
 pub mod Booting
 pub mod Comparing
@@ -10,6 +11,7 @@ pub mod Installing
 pub mod Listing
 pub mod Looking
 pub mod Marking
+pub mod Rekeying
 pub mod Safe
 pub mod Scripting
 pub mod Session

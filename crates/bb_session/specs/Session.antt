@@ -12,13 +12,14 @@ use Rattle.bb_flash.specs.declared.geometry.Geometry.{Geometry}
 use Rattle.bb_flash.specs.Image.{Image}
 use Rattle.bb_layout.specs.Convert.{convert}
 use Rattle.bb_layout.specs.Layout.{Laid}
-use Rattle.bb_session.specs.Acting.{Acts, BootsFrom, Lists, Plays, SavesAround, Stops, WorkAnswers, acts_of, bar_refusal, needs_table, no_answers, play_of, refusal_by_table, rounds_for, save_rounds_around, sound_answers, start_plans_of}
+use Rattle.bb_session.specs.Acting.{Acts, BootsFrom, Lists, Plays, SavesAround, SendsCounts, Stops, WorkAnswers, acts_of, bar_refusal, counts_copies, needs_table, no_answers, play_of, refusal_by_table, rounds_for, save_rounds_around, sound_answers, start_plans_of}
 use Rattle.bb_session.specs.Around.{slot_refusal}
 use Rattle.bb_session.specs.Comparing.{CompareAnswer, compare_text}
 use Rattle.bb_session.specs.DrillLine.{drill_line}
 use Rattle.bb_session.specs.Installing.{installed_text}
 use Rattle.bb_session.specs.Looking.{first_found, listed_by, look_text, passed_in}
 use Rattle.bb_session.specs.Marking.{good_text}
+use Rattle.bb_session.specs.Rekeying.{CopyCounts, no_counts, rekey_line}
 use Rattle.bb_session.specs.Scripting.{refusal_by_end, script_text}
 use Rattle.bb_interpreter.specs.Standing.{Course}
 use Rattle.bb_interpreter.specs.declared.run.ScriptEnd.{ScriptEnd}
@@ -155,6 +156,7 @@ session_by_acts plan shown (SavesAround first place second) answers =
     around_session plan shown answers.stuck
     (save_rounds_around first second answers.stuck answers.rounds)
 session_by_acts plan shown Lists answers = done_with answers.listed
+session_by_acts plan shown SendsCounts answers = done_with (rekey_line answers.counts)
 session_by_acts plan shown acts answers =
     worked_on plan shown acts (rounds_for (start_plans_of plan.work) acts answers)
 
@@ -221,9 +223,19 @@ abbrev pub load_for : Result SessionPlan EarlyEnd → Geometry → Image → Loa
 load_for (Ok plan) geometry image = Ok (first_found (passed_in plan.keyed geometry.page image))
 load_for (Err end) geometry image = Ok None
 
+-- then all copies pass what it found, if it found one, and none under the old key alone
+abbrev pub counts_for : Laid → Option (List ℕ) → CopyCounts
+counts_for layout None = no_counts
+counts_for layout (Some area) = record { live = layout.copies; old = 0 }
+
+abbrev pub counts_when_sound : SessionPlan → Option (List ℕ) → CopyCounts
+counts_when_sound plan found =
+    if counts_copies plan.work then counts_for plan.keyed.layout found else no_counts
+
 -- what is answered to the work after it
 abbrev pub answers_after : SessionPlan → LoadAnswer → WorkAnswers
-answers_after plan (Ok found) = sound_answers (acts_after plan found)
+answers_after plan (Ok found) =
+    record (sound_answers (acts_after plan found)) { counts = counts_when_sound plan found }
 answers_after plan (Err fault) = no_answers
 
 abbrev pub answers_for : Result SessionPlan EarlyEnd → LoadAnswer → WorkAnswers

@@ -12,7 +12,7 @@ use Rattle.bb_flash.specs.Image.{Image}
 use Rattle.bb_layout.specs.Family.{SameFamily}
 use Rattle.bb_state.specs.Blank.{IsErased}
 use Rattle.bb_state.specs.Keyed.{Keyed}
-use Rattle.bb_session.specs.Looking.{passed_in}
+use Rattle.bb_session.specs.Looking.{aged_in, passed_in}
 use Rattle.bb_shell.specs.Counting.{turn_of_rounds}
 use Rattle.bb_shell.specs.Stages.{AreAnswered, first_area}
 use Rattle.bb_plan.specs.Plan.{SessionPlan}
@@ -28,19 +28,20 @@ pub record HoldsNoArea (keyed : Keyed) (page : ℕ) (image : Image) : Type 0 whe
   pub stands :
       Stands first_area (passed_in keyed page image) (first_area ∷ []) 0
 
--- so it is on a device that holds 0xFF alone, in pages of any health, for every layout, key and
+-- so it is on a device that holds 0xFF alone, in pages of any health, for every layout, keys and
 -- format
 abbrev pub BlankLaw : Type 0
 BlankLaw =
     (keyed : Keyed) (page : ℕ) (image : Image) → IsErased image → HoldsNoArea keyed page image
 
--- Layouts of one family, under one key, see the same in every image: what one session's copies
--- stand for the next one's do, under whichever of the layouts it runs.
+-- Layouts of one family, under the same keys, see the same in every image: what one session's
+-- copies stand for the next one's do, under whichever of the layouts it runs.
 abbrev pub FamilyLaw : Type 0
 FamilyLaw =
     (one other : Keyed) (page : ℕ) (image : Image) →
     SameFamily one.layout other.layout →
     one.key ≡ other.key →
+    one.old ≡ other.old →
     passed_in one page image ≡ passed_in other page image
 
 -- ---- the turn of a session
@@ -64,7 +65,7 @@ turn_of plan load answers marks =
 pub record IsCounted (keyed : Keyed) (page : ℕ) (told : Told) (since : ℕ)
     (passed : List (Option (List ℕ))) : Type 0 where
   pub image : Image
-  pub counts : Counts (IsLucky (passed_in keyed page)) page told since image
+  pub counts : Counts (IsLucky (aged_in keyed page)) page told since image
   pub passes : passed ≡ passed_in keyed page image
 
 -- the turn leads from a content to the one at the end
@@ -131,7 +132,7 @@ EachStanding keyed from to P =
 -- no call that failed left a copy that passes by luck
 abbrev pub IsFairRun : Keyed → ℕ → Told → Told → Type 0
 IsFairRun keyed page first last =
-    IsFair (IsLucky (passed_in keyed page)) last (moment first) (moment last)
+    IsFair (IsLucky (aged_in keyed page)) last (moment first) (moment last)
 
 -- at exit, in a fair run, the copies stand for what the session's turn makes of the list
 abbrev pub LeadsOn : SessionPlan → Device → Device → LoadAnswer → WorkAnswers → Type 0

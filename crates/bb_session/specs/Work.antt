@@ -4,7 +4,7 @@ use Rattle.std.specs.Prelude.{◌≡◌, ◌≢◌, ◌⊎◌, ℕ, ◌≤◌, L
 use Rattle.std.specs.Option.{ForSome, IfSome}
 use Rattle.bb_base.specs.Faults.{counted}
 use Rattle.bb_bucket.specs.Calls.{IsQuiet}
-use Rattle.bb_copies.specs.Loading.{KeepsOutside, LoadGives, LoadImages, LoadSays, LoadsErasing, LoadsExactly}
+use Rattle.bb_copies.specs.Loading.{KeepsOutside, LoadAges, LoadGives, LoadImages, LoadSays, LoadsErasing, LoadsExactly}
 use Rattle.bb_copies.specs.Store.{used_after}
 use Rattle.bb_copies.specs.declared.answers.CopyFault.TheVariants.{ReadFault}
 use Rattle.bb_copies.specs.declared.answers.Loaded.{Loaded}
@@ -27,12 +27,13 @@ use Rattle.bb_state.specs.State.{IsRefused}
 use Rattle.bb_session.specs.Acting.{Acts, AreRoundsOf, IsSavedAround, Plays, SavesAround, WorkAnswers, acts_of, kept_before, listing, needs_table, no_answers, place_in, start_plans_of}
 use Rattle.bb_session.specs.Around.{AreRunAround, slot_of_work}
 use Rattle.bb_session.specs.Looking.{first_found, listed_by, passed_in}
+use Rattle.bb_session.specs.Rekeying.{CopyCounts, counts_in}
 use Rattle.bb_shell.specs.declared.boot_end.BootEnd.{BootEnd}
 use Rattle.bb_session.specs.Booting.{end_refusal, end_text}
 use Rattle.bb_install.specs.Beside.{IsBesideCopies}
 use Rattle.bb_plan.specs.Plan.{SessionPlan}
 use Rattle.bb_plan.specs.declared.plan.Work.{Work}
-use Rattle.bb_plan.specs.declared.plan.Work.TheVariants.{History}
+use Rattle.bb_plan.specs.declared.plan.Work.TheVariants.{History, Rekey}
 use Rattle.bb_session.specs.Session.{LoadAnswer, Session, loaded_area, work_session}
 use Rattle.bb_plan.specs.Refusal.{takes_memory}
 use Rattle.bb_session.specs.declared.report.Report.{Report}
@@ -63,6 +64,7 @@ pub record IsLoadedArea (keyed : Keyed) (area : List ℕ) (loaded : Loaded) (fro
     : Type 0 where
   pub gives : LoadGives (laid_form keyed) (laid_kinds keyed.layout) area from to loaded
   pub says : LoadSays (laid_form keyed) area loaded
+  pub ages : LoadAges (laid_form keyed) (laid_kinds keyed.layout) from to loaded
   pub exact : LoadsExactly (laid_form keyed) (laid_kinds keyed.layout) area from to loaded
   pub erases : LoadsErasing (laid_form keyed) (laid_kinds keyed.layout) area from to loaded
 
@@ -74,6 +76,15 @@ pub record IsLoadedAs (keyed : Keyed) (used : Option ℕ) (from to : Device)
   pub gave : IsLoadedArea keyed area loaded from to
   pub taken : found ≡ area_taken area loaded
   pub used_is : used ≡ used_after loaded
+
+-- it answered Ok, and counted this
+pub record IsLoadedFor (keyed : Keyed) (counts : CopyCounts) (from to : Device)
+    (found : Option (List ℕ)) : Type 0 where
+  pub area : List ℕ
+  pub loaded : Loaded
+  pub gave : IsLoadedArea keyed area loaded from to
+  pub taken : found ≡ area_taken area loaded
+  pub counts_are : counts ≡ counts_in loaded
 
 -- what a load made of the device, and what it answered
 pub record IsLoaded (keyed : Keyed) (used : Option ℕ) (from to : Device) (answer : LoadAnswer)
@@ -140,6 +151,9 @@ pub record IsTableWork (plan : SessionPlan) (from to : Device) (load : LoadAnswe
   pub beside : IfSome (slot_of_work plan.work) (IsBesideCopies (laid_kinds plan.keyed.layout))
   pub loaded : IsLoaded plan.keyed used from middle load
   pub ran : IsRunAfterLoad plan used middle to load answers
+  -- where its counts are asked for, they are answered
+  pub counted :
+      plan.work ≡ Rekey → IfOk load (IsLoadedFor plan.keyed answers.counts from middle)
 
 -- what was listed is the whole text, or where a read failed a front of it
 abbrev pub ListsFront : LoadAnswer → List ℕ → List ℕ → Type 0

@@ -9,6 +9,7 @@ mod history;
 mod install;
 mod mark_good;
 mod raw;
+mod rekey;
 mod report;
 mod script;
 mod store;

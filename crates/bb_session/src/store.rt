@@ -58,7 +58,7 @@ fn put(state: &mut State, work: &Work) -> Result<(), Refusal>
             Ok(())
         }
         Work::Good(chooser) => mark(state, chooser),
-        Work::Show | Work::History => unreachable!(),
+        Work::Show | Work::History | Work::Rekey => unreachable!(),
         Work::Boot(_, _, _) => unreachable!(),
         Work::Run(_, _, _, _) | Work::Install(_, _, _) => unreachable!(),
     }
@@ -112,7 +112,7 @@ fn say(alloc: Global, state: &State, work: &Work) -> Result<Bytes, NoMemory>
     match work {
         Work::Act(actions) => actions_text(alloc, state.layout(), state.table.bytes(), actions),
         Work::Good(chooser) => good_text(alloc, chooser, &state.table),
-        Work::Show | Work::History | Work::Write(_) => Ok(Bytes::none(alloc)),
+        Work::Show | Work::History | Work::Write(_) | Work::Rekey => Ok(Bytes::none(alloc)),
         Work::Boot(_, _, _) | Work::Run(_, _, _, _) => Ok(Bytes::none(alloc)),
         Work::Install(_, _, _) => Ok(Bytes::none(alloc)),
     }

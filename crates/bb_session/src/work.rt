@@ -2,7 +2,7 @@ ghost use Rattle.std.specs.Prelude.{◌≡◌, IfErr, false, length, true};
 ghost use Rattle.bb_flash.specs.Cuts.{IsLater};
 ghost use Rattle.bb_flash.specs.Device.{IsDevice};
 ghost use Rattle.bb_state.specs.State.{IsOn, keyed_of, used_of};
-ghost use Rattle.bb_session.specs.Acting.{needs_table};
+ghost use Rattle.bb_session.specs.Acting.{counts_copies, needs_table};
 ghost use Rattle.bb_session.specs.Doing.{IsAtHand, IsDone, page_len};
 ghost use Rattle.bb_plan.specs.Plan.{IsPlannedFor, IsServed, plan_as};
 ghost use Rattle.bb_plan.specs.Refusal.{IsSendableRefusal};
@@ -12,6 +12,7 @@ use crate::boot::boot;
 use crate::history::history;
 use crate::install::install;
 use crate::raw::look;
+use crate::rekey::rekey;
 use crate::report::Report;
 use crate::script::run;
 use crate::store::{store, stores};
@@ -31,7 +32,7 @@ pub fn do_work<B: Board>(alloc: Global, board: &mut B, plan: PlannedWork) -> Res
     ensures later { IsLater (B.device board.old) (B.device board.new) }
 {
     let PlannedWork { keyed, work } = plan;
-    let state = State::mount(alloc, keyed.layout, keyed.key)?;
+    let state = State::mount(alloc, keyed.layout, keyed.key, keyed.old)?;
     work_on(alloc, board, state, work)
 }
 
@@ -52,7 +53,10 @@ fn work_on<B: Board>(
         return read(alloc, board, &mut state, &work);
     }
     let mut page = vec![in alloc; 0u8; page_len(board.geometry(), &work)]?;
-    state.load(board)?;
+    let loaded = state.load(board)?;
+    if counts_copies(&work) {
+        return rekey(alloc, loaded);
+    }
     work_at(alloc, board, state, work, &mut page)
 }
 
@@ -85,6 +89,7 @@ fn read<F: Flash>(
         Work::Boot(_chooser, _cause, _plans) => unreachable!(),
         Work::Run(_script, _chooser, _cause, _plans) => unreachable!(),
         Work::Install(_chooser, _target, _place) => unreachable!(),
+        Work::Rekey => unreachable!(),
     }
 }
 
@@ -99,6 +104,13 @@ fn page_len(geometry: Geometry, work: &Work) -> usize
     }
 }
 
+// Whether a work only gives the counts of its load.
+fn counts_copies(work: &Work) -> bool
+    ensures { result ≡ counts_copies work.now }
+{
+    matches!(work, Work::Rekey)
+}
+
 // The work on a table that was just loaded.
 fn work_at<B: Board>(
     alloc: Global,
@@ -108,6 +120,7 @@ fn work_at<B: Board>(
     page: &mut [u8],
 ) -> Result<Report, Refusal>
     requires needs { needs_table work ≡ true }
+    requires other { counts_copies work ≡ false }
     requires served { IsServed (keyed_of state) work }
     requires hand { IsAtHand state (B.device board.old) }
     requires page { length page.old ≡ page_len (B.device board.old).geometry work }
@@ -128,7 +141,7 @@ fn work_at<B: Board>(
             install(alloc, board, &mut state, &chooser, target, &place, page)
         }
         Work::Show => unreachable!(),
-        Work::History => unreachable!(),
+        Work::History | Work::Rekey => unreachable!(),
         Work::Write(_area) => unreachable!(),
         Work::Act(_actions) => unreachable!(),
         Work::Good(_chooser) => unreachable!(),

@@ -8,6 +8,7 @@ use Rattle.bb_state.specs.Kinds.{is_table}
 use Rattle.bb_state.specs.State.{last_table_of, keyed_of, laid_of, used_of}
 use Rattle.bb_state.specs.declared.state.State.{State}
 use Rattle.bb_layout.specs.Kept.{IsLaid}
+use Rattle.bb_shell.proofs.Aging.{rounds_ages}
 use Rattle.bb_shell.proofs.Reached.{stops_refused}
 use Rattle.bb_shell.proofs.Trails.{rounds_exit, rounds_trail}
 use Rattle.bb_shell.proofs.Underway.{last_is, rose_none}
@@ -37,6 +38,7 @@ booted_of b plans first table before after from to end same geometry fits facts 
       kept = λ sure. run.kept sure ∙ sym (ap (λ o. option_map_or (λ (round : Round). round.table) o before.backing.kept) last);
       trail = rounds_trail (keyed_of before) plans rounds (Some (last_table_of before)) (used_of before) (used_of after) from to geometry stops run.run;
       exit = rounds_exit (keyed_of before) plans rounds (Some (last_table_of before)) (used_of before) (used_of after) from to geometry stops run.run;
+      ages = rounds_ages (keyed_of before) plans rounds (Some (last_table_of before)) (used_of before) (used_of after) from to geometry stops run.run;
       start_faults = run.start_faults;
     }
 
@@ -52,5 +54,6 @@ booted_none b plans first state device none geometry = record {
   kept = λ sure. refl;
   trail = rounds_trail (keyed_of state) plans [] (Some (last_table_of state)) (used_of state) (used_of state) device device geometry tt (refl, refl);
   exit = rounds_exit (keyed_of state) plans [] (Some (last_table_of state)) (used_of state) (used_of state) device device geometry tt (refl, refl);
+  ages = rounds_ages (keyed_of state) plans [] (Some (last_table_of state)) (used_of state) (used_of state) device device geometry tt (refl, refl);
   start_faults = rose_none device.start_faults;
 }

@@ -1,4 +1,5 @@
 -- Lemmas.
+pub mod Aging
 pub mod Answering
 pub mod Attempts
 pub mod Booted

@@ -5,8 +5,9 @@ use Rattle.std.specs.Prelude.{⊤, MatchBool, count_by, is_some, slice_get}
 use Rattle.std.proofs.lemmas.Bool.{false≢true}
 use Rattle.std.proofs.lemmas.List.Sums.{sum_by-cons}
 use Rattle.bb_chooser.specs.Binding.{Binding}
+use Rattle.bb_copies.specs.Ages.{AgedArea}
 use Rattle.bb_copies.specs.Luck.{IsLucky}
-use Rattle.bb_copies.specs.Passing.{passes_at, passings}
+use Rattle.bb_copies.specs.Passing.{aged_passings, passes_at, passings}
 use Rattle.bb_copies.specs.Saving.{KeepsUsed, SaveImages, StandsLonger}
 use Rattle.bb_copies.specs.StandsFor.{EachPassesOrNothing, SomePasses}
 use Rattle.bb_copies.specs.Trail.{Stage, StandsAtOne, stages_of}
@@ -21,7 +22,7 @@ use Rattle.bb_flash.specs.Cuts.{EachImage, IsLater}
 use Rattle.bb_flash.specs.Device.{Change, Device, Told, content}
 use Rattle.bb_flash.specs.Image.{Image}
 use Rattle.bb_state.specs.Keyed.{Keyed}
-use Rattle.bb_state.specs.Kinds.{laid_form, laid_kinds, laid_passings}
+use Rattle.bb_state.specs.Kinds.{laid_aged, laid_form, laid_kinds, laid_passings}
 use Rattle.bb_state.specs.State.{IsStored}
 use Rattle.bb_shell.proofs.Ends.{retried_saved}
 use Rattle.bb_shell.proofs.Joins.{untouched}
@@ -116,8 +117,12 @@ module _ (keyed : Keyed) where
   abbrev pub Passed : Image → List (Option (List ℕ))
   Passed image = laid_passings keyed image
 
+  -- with whether it passes as an old area alone
+  abbrev pub Aged : Image → List (Option AgedArea)
+  Aged image = laid_aged keyed image
+
   abbrev pub Luck : Change → Image → Type 0
-  Luck = IsLucky (laid_passings keyed)
+  Luck = IsLucky (laid_aged keyed)
 
   -- after a save that answered Ok
   pub record HoldsNow (table : List ℕ) (now : Option ℕ) (image : Image) : Type 0 where
@@ -183,7 +188,7 @@ module _ (keyed : Keyed) where
   save_counted : (used : Option ℕ) (table : List ℕ) (from to : Device) → from.geometry ≡ keyed.layout.geometry →
       SaveImages (laid_form keyed) (laid_kinds keyed.layout) used table from to → EachCounted Luck (Longer used table) from to
   save_counted used table from to geometry images =
-      subst (λ g. EachCounted (IsLucky (passings (laid_form keyed) g.page (laid_kinds keyed.layout)))
+      subst (λ g. EachCounted (IsLucky (aged_passings (laid_form keyed) g.page (laid_kinds keyed.layout)))
       (λ before image. StandsLonger used table (passings (laid_form keyed) g.page (laid_kinds keyed.layout) before)
       (passings (laid_form keyed) g.page (laid_kinds keyed.layout) image)) from to) geometry images
 

@@ -10,6 +10,7 @@ use Rattle.bb_flash.specs.Device.{Device, starts}
 use Rattle.bb_flash.specs.declared.plan.Plan.{Plan}
 use Rattle.bb_state.specs.Keyed.{Keyed}
 use Rattle.bb_state.specs.Kinds.{laid_kinds}
+use Rattle.bb_shell.proofs.Aging.{rounds_ages}
 use Rattle.bb_shell.proofs.Ends.{retried_failed, some_joined}
 use Rattle.bb_shell.proofs.Joins.{outside_joined, outside_refl, stored_joined, stored_refl}
 use Rattle.bb_shell.proofs.LastRounds.{kept_cons, last_cons, refused_cons}
@@ -164,6 +165,7 @@ module _ (keyed : Keyed) (plans : List (Option Plan)) where
     stops = stops;
     trail = rounds_trail keyed plans rounds kept used now from to geometry (stops_refused rounds stops) run;
     exit = rounds_exit keyed plans rounds kept used now from to geometry (stops_refused rounds stops) run;
+    ages = rounds_ages keyed plans rounds kept used now from to geometry (stops_refused rounds stops) run;
     stored = λ none. run_stored rounds kept used now from to geometry run stops none;
     outside = run_outside rounds kept used now from to run;
     later = rounds_later keyed plans rounds kept used now from to run;

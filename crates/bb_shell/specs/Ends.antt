@@ -14,6 +14,7 @@ use Rattle.bb_state.specs.Kinds.{laid_passings}
 use Rattle.bb_state.specs.Shows.{EachShowsOrNothing}
 use Rattle.bb_state.specs.State.{IsOn, is_sure, last_table_of, keyed_of, laid_of, used_of}
 use Rattle.bb_state.specs.declared.state.State.{State}
+use Rattle.bb_shell.specs.Aging.{KeepsAges}
 use Rattle.bb_shell.specs.Boot.{AreRounds, Round, end_by, boot_end, plan_at, table_after}
 use Rattle.bb_shell.specs.Running.{AreRun}
 use Rattle.bb_shell.specs.Stages.{KeepsATrail, KeepsAtExit}
@@ -91,6 +92,8 @@ pub record IsBooted
   pub exit :
       KeepsAtExit (keyed_of before) (Some (last_table_of before)) (used_of before) (used_of after)
       rounds from to
+  -- and which of them pass as old ones alone
+  pub ages : KeepsAges (keyed_of before) (Some (last_table_of before)) rounds from to
   pub start_faults : RaisedBy (failed_starts rounds) from.start_faults to.start_faults
 
 -- nothing was saved or started, and the table is the one before any reset

@@ -6,6 +6,7 @@ pub use Rattle.bb_flash.specs.Device
 pub use Rattle.bb_copies.specs.Saving
 pub use Rattle.bb_chooser.specs.Choosing
 pub use Rattle.bb_state.specs.State
+pub mod Aging
 pub mod Boot
 pub mod Counting
 pub mod Cutting

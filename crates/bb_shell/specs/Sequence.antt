@@ -9,6 +9,7 @@ use Rattle.bb_flash.specs.Device.{Device, starts}
 use Rattle.bb_flash.specs.declared.plan.Plan.{Plan}
 use Rattle.bb_state.specs.Keyed.{Keyed}
 use Rattle.bb_state.specs.Kinds.{laid_kinds}
+use Rattle.bb_shell.specs.Aging.{KeepsAges}
 use Rattle.bb_shell.specs.Boot.{Round, has_failed, last_round, plan_at}
 use Rattle.bb_shell.specs.Ends.{AddsStart, RaisedBy, StaysStored, failed_starts}
 use Rattle.bb_shell.specs.Rounds.{is_started}
@@ -67,8 +68,9 @@ pub record RanRounds
   -- what the copies stand for, in each image on the way and at exit
   pub trail : KeepsATrail keyed kept used rounds from to
   pub exit : KeepsAtExit keyed kept used now rounds from to
-  -- and what they pass
+  -- and what they pass, as old areas alone or not
   pub stored : refused_in rounds ≡ None → StaysStored keyed kept (kept_after kept rounds) from to
+  pub ages : KeepsAges keyed kept rounds from to
   pub outside : KeepsOutside (laid_kinds keyed.layout) from to
   pub later : IsLater from to
   pub starts : AddsLast plans rounds from to

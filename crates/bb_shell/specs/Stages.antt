@@ -12,7 +12,7 @@ use Rattle.bb_flash.specs.Cuts.{IsLater}
 use Rattle.bb_flash.specs.Device.{Device, Told, moment}
 use Rattle.bb_flash.specs.Image.{Image}
 use Rattle.bb_state.specs.Keyed.{Keyed}
-use Rattle.bb_state.specs.Kinds.{laid_passings}
+use Rattle.bb_state.specs.Kinds.{laid_aged, laid_passings}
 use Rattle.bb_state.specs.Shows.{ShowsAt}
 use Rattle.bb_state.specs.State.{IsStored}
 use Rattle.bb_shell.specs.Boot.{Round, last_round}
@@ -105,7 +105,7 @@ AreAnswered keyed from end (area ∷ areas) (when ∷ answered) =
 pub record IsCounted (keyed : Keyed) (told : Told) (since : ℕ) (passed : List (Option (List ℕ)))
     : Type 0 where
   pub image : Image
-  pub counts : Counts (IsLucky (laid_passings keyed)) keyed.layout.geometry.page told since image
+  pub counts : Counts (IsLucky (laid_aged keyed)) keyed.layout.geometry.page told since image
   pub passes : passed ≡ laid_passings keyed image
 
 -- The trail of the stages that saves reached, from the moment of entry on: each image that counts
@@ -127,7 +127,7 @@ pub record HasTrail (keyed : Keyed) (from to : Device) (first last : Told) (h : 
 -- no call that failed left a copy that passes by luck
 abbrev pub IsFairRun : Keyed → Told → Told → Type 0
 IsFairRun keyed first last =
-    IsFair (IsLucky (laid_passings keyed)) last (moment first) (moment last)
+    IsFair (IsLucky (laid_aged keyed)) last (moment first) (moment last)
 
 -- In a fair run the copies stand for the list with the saves after it. Where each of these answered
 -- Ok the last table is acknowledged, and another save may go on after it.

@@ -1,5 +1,5 @@
 -- The lines of a state by computation.
-use Rattle.std.proofs.Common.{◌≡◌, ℕ, List, [], ◌∷◌, ◌++◌, Option, Some, None, Ok, Err, codes, refl, replicate}
+use Rattle.std.proofs.Common.{◌≡◌, ℕ, true, false, List, [], ◌∷◌, ◌++◌, Option, Some, None, Ok, Err, codes, refl, replicate}
 use Rattle.std.specs.List.{flat_map}
 use Rattle.std.specs.Fmt.{digits}
 use Rattle.bb_vars.specs.Mac.{pair_text}
@@ -7,11 +7,11 @@ use Rattle.bb_vars.specs.declared.kind.Kind.{Kind}
 use Rattle.bb_vars.specs.declared.kind.Kind.TheVariants.{Uint8, Enum32, Mac, Chars}
 use Rattle.bb_flash.specs.Geometry.{in_place_of}
 use Rattle.bb_layout.specs.declared.format_kind.FormatKind.{FormatKind}
-use Rattle.bb_layout.specs.declared.format_kind.FormatKind.TheVariants.{Raw, RawHmac}
+use Rattle.bb_layout.specs.declared.format_kind.FormatKind.TheVariants.{Dtb, Raw, RawHmac}
 use Rattle.bb_layout.specs.declared.storage.Storage.TheVariants.{Stride}
 use Rattle.bb_layout.specs.declared.var.Var.{Var}
 use Rattle.bb_vars.specs.declared.value_error.ValueError.TheVariants.{TooLarge, TooLong, NoSuchName, NotMac}
-use Rattle.bb_state.specs.Keyed.{FitsKey, Keyed}
+use Rattle.bb_state.specs.Keyed.{FitsKey, FitsOld, Keyed}
 use Rattle.bb_state.specs.Kinds.{laid_form}
 use Rattle.bb_state.specs.Lines.{dump_line, shell_line, shell_name, shell_value}
 use Rattle.bb_state.specs.Named.{after_set, refusal_for, text_for}
@@ -110,6 +110,7 @@ in_strides format key = record {
     vars = [];
   };
   key = key;
+  old = None;
 }
 
 -- the block of the key `4a656665`
@@ -140,3 +141,12 @@ key_missing h = absurd cc
 
 key_too_many : FitsKey Raw (Some jefe) → ⊥
 key_too_many h = absurd cc
+
+old_there : FitsOld RawHmac (Some jefe)
+old_there h = refl
+
+no_old_there : FitsOld Dtb None
+no_old_there h = absurd cc
+
+old_too_many : FitsOld Raw (Some jefe) → ⊥
+old_too_many h = let clash : false ≡ true = h refl in absurd cc

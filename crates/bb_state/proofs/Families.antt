@@ -1,4 +1,4 @@
--- Layouts of one family, under one key, have the same copies, which pass the same.
+-- Layouts of one family, under the same keys, have the same copies, which pass the same.
 use Rattle.std.proofs.Common.{◌≡◌, ◌∙◌, ◌-◌, ℕ, List, None, Option, ap, map, refl}
 use Rattle.std.specs.List.{range_with_len}
 use Rattle.bb_base.specs.Form.{Form}
@@ -57,43 +57,46 @@ kinds_same one other family = ap (kinds_of any_holding) (buckets_same one other 
 
 -- ---- the records
 
--- raw records of a magic that stand in so many bytes, under a key or none
-abbrev raw_of : Option (List ℕ) → ℕ → ℕ → AnyFormat
-raw_of key magic room = formats.Raw (record { kind = record { magic = magic; key = key }; room = room })
+-- raw records of a magic that stand in so many bytes, under a key or none, and under an old one
+abbrev raw_of : Option (List ℕ) → Option (List ℕ) → ℕ → ℕ → AnyFormat
+raw_of key old magic room =
+    formats.Raw (record { kind = record { magic = magic; key = key }; old = old; room = room })
 
 room_same : (one other : Laid) → SameFamily one other → copy_room one ≡ copy_room other
 room_same one other family =
     ap (λ g. spacing g one.storage - stride_header_len) family.geometry
     ∙ ap (λ s. spacing other.geometry s - stride_header_len) family.storage
 
-raw_same : (key : Option (List ℕ)) (one other : Laid) → SameFamily one other →
-    any_form (raw_under key one) ≡ any_form (raw_under key other)
-raw_same key one other family =
-    ap (λ magic. any_form (raw_of key magic (copy_room one))) family.magic
-    ∙ ap (λ room. any_form (raw_of key other.magic room)) (room_same one other family)
+raw_same : (key old : Option (List ℕ)) (one other : Laid) → SameFamily one other →
+    any_form (raw_under key old one) ≡ any_form (raw_under key old other)
+raw_same key old one other family =
+    ap (λ magic. any_form (raw_of key old magic (copy_room one))) family.magic
+    ∙ ap (λ room. any_form (raw_of key old other.magic room)) (room_same one other family)
 
 form_of_format : (format : FormatKind) (one other : Keyed) → SameFamily one.layout other.layout →
-    one.key ≡ other.key → one.layout.format ≡ format →
+    one.key ≡ other.key → one.old ≡ other.old → one.layout.format ≡ format →
     any_form (format_for format one) ≡ any_form (format_for format other)
-form_of_format Raw one other family key is = raw_same None one.layout other.layout family
-form_of_format RawHmac one other family key is =
-    raw_same one.key one.layout other.layout family
-    ∙ ap (λ k. any_form (raw_under k other.layout)) key
-form_of_format Dtb one other family key is =
-    ap (λ (layout : Laid). any_form (format_for Dtb (record { layout = layout; key = None }))) (family.blobs is)
+form_of_format Raw one other family key old is =
+    raw_same None None one.layout other.layout family
+form_of_format RawHmac one other family key old is =
+    raw_same one.key one.old one.layout other.layout family
+    ∙ ap (λ k. any_form (raw_under k one.old other.layout)) key
+    ∙ ap (λ k. any_form (raw_under other.key k other.layout)) old
+form_of_format Dtb one other family key old is =
+    ap (λ (layout : Laid). any_form (format_for Dtb (record { layout = layout; key = None; old = None }))) (family.blobs is)
 
 pub form_same : (one other : Keyed) → SameFamily one.layout other.layout → one.key ≡ other.key →
-    laid_form one ≡ laid_form other
-form_same one other family key =
-    form_of_format one.layout.format one other family key refl
+    one.old ≡ other.old → laid_form one ≡ laid_form other
+form_same one other family key old =
+    form_of_format one.layout.format one other family key old refl
     ∙ ap (λ format. any_form (format_for format other)) family.format
 
 -- what each copy passes, in an image of a device with pages of this size
 pub passed_same : (one other : Keyed) (page : ℕ) (image : Image) → SameFamily one.layout other.layout →
-    one.key ≡ other.key →
+    one.key ≡ other.key → one.old ≡ other.old →
     passings (laid_form one) page (laid_kinds one.layout) image
     ≡ passings (laid_form other) page (laid_kinds other.layout) image
-passed_same one other page image family key =
-    ap (λ (form : Form). passings form page (laid_kinds one.layout) image) (form_same one other family key)
+passed_same one other page image family key old =
+    ap (λ (form : Form). passings form page (laid_kinds one.layout) image) (form_same one other family key old)
     ∙ ap (λ (ks : List BucketKind). passings (laid_form other) page ks image)
     (kinds_same one.layout other.layout family)

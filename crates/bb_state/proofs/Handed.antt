@@ -15,7 +15,7 @@ use Rattle.bb_vars.specs.Table.{table_with}
 use Rattle.bb_layout.specs.Layout.{Laid}
 use Rattle.bb_state.specs.Backed.{Backed, IsBacked, form_in, kinds_in}
 use Rattle.bb_state.specs.Keyed.{Keyed}
-use Rattle.bb_state.specs.Kinds.{any_form, any_holding, format_of, key_of_format, laid_form, laid_kinds}
+use Rattle.bb_state.specs.Kinds.{any_form, any_holding, format_of, key_of_format, laid_form, laid_kinds, old_of_format}
 use Rattle.bb_state.specs.Stored.{stored_len_of}
 use Rattle.bb_state.specs.declared.any_bucket.AnyBucket.{AnyBucket}
 use Rattle.bb_state.specs.declared.any_format.AnyFormat.{AnyFormat}
@@ -47,12 +47,12 @@ stored_fits form stored NoCopy says = inl says
 -- the copies keep their buckets, format and lengths, and what they are written into its length
 pub still_backed : (layout : Laid) (buckets now : List AnyBucket) (format form : AnyFormat) (most many : ℕ) (memory left : List ℕ) (len stored : ℕ) (kept table : List ℕ) →
     kinds_of any_holding now ≡ kinds_of any_holding buckets → form ≡ format → many ≡ most → length left ≡ length memory → stored ≤ length left → length table ≡ length kept →
-    IsBacked (record { layout = layout; key = key_of_format format }) buckets format most memory len kept →
-    IsBacked (record { layout = layout; key = key_of_format form }) now form many left stored table
+    IsBacked (record { layout = layout; key = key_of_format format; old = old_of_format format }) buckets format most memory len kept →
+    IsBacked (record { layout = layout; key = key_of_format form; old = old_of_format form }) now form many left stored table
 still_backed layout buckets now format form most many memory left len stored kept table same_kinds same_form same_most size inside same_len backed = record {
   kinds = same_kinds ∙ backed.kinds;
   format_is =
-      subst (λ (f : AnyFormat). f ≡ format_of (record { layout = layout; key = key_of_format f })) (sym same_form) backed.format_is;
+      subst (λ (f : AnyFormat). f ≡ format_of (record { layout = layout; key = key_of_format f; old = old_of_format f })) (sym same_form) backed.format_is;
   serves = backed.serves;
   most_is = same_most ∙ backed.most_is;
   memory_is = size ∙ backed.memory_is ∙ ap (λ (f : AnyFormat). (any_form f).area_len) (sym same_form);

@@ -4,6 +4,7 @@ pub mod Examples
 pub mod Families
 pub mod Fitting
 pub mod Handed
+pub mod KeyChange
 pub mod Limits
 pub mod Lists
 pub mod Mounting

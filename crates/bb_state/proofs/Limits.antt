@@ -16,8 +16,8 @@ use Rattle.bb_circular.specs.Entries.{closed_entry, closes, closing_len_of, last
 use Rattle.bb_circular.specs.EntryLaws.{closes_fits}
 use Rattle.bb_circular.specs.Pages.{Page, page_at, written_pages}
 use Rattle.bb_circular.specs.declared.kept.Entry.{Entry}
-use Rattle.bb_raw.specs.Raw.{record_limit}
-use Rattle.bb_raw.specs.RoomLaws.{passes_as_anywhere, passes_without_limit}
+use Rattle.bb_raw.specs.Raw.{RawKind, RawRecords, record_limit}
+use Rattle.bb_raw.specs.RoomLaws.{old_as_anywhere, old_without_limit, passes_as_anywhere, passes_without_limit}
 use Rattle.bb_layout.specs.Copies.{spacing}
 use Rattle.bb_layout.specs.Layout.{Laid}
 use Rattle.bb_layout.specs.declared.format_kind.FormatKind.{FormatKind}
@@ -25,9 +25,9 @@ use Rattle.bb_layout.specs.declared.format_kind.FormatKind.TheVariants as format
 use Rattle.bb_layout.specs.declared.storage.Storage.{Storage}
 use Rattle.bb_layout.specs.declared.storage.Storage.TheVariants as storages
 use Rattle.bb_copies.specs.Buckets.{kinds_of}
-use Rattle.bb_copies.specs.Passing.{passing_of, passings}
+use Rattle.bb_copies.specs.Passing.{aged_of, aged_passings, passings}
 use Rattle.bb_state.specs.Keyed.{Keyed}
-use Rattle.bb_state.specs.Kinds.{any_form, any_holding, bucket_at, copy_room, format_for, format_of, laid_kinds, laid_passings, longest_len, raw_under}
+use Rattle.bb_state.specs.Kinds.{any_form, any_holding, bucket_at, copy_room, format_for, format_of, laid_aged, laid_kinds, laid_passings, longest_len, raw_under}
 use Rattle.bb_state.specs.declared.any_bucket.AnyBucket.{AnyBucket}
 use Rattle.bb_state.specs.declared.any_bucket.AnyBucket.TheVariants.{Stride, OneBlock, Circular}
 use Rattle.bb_state.specs.declared.any_format.AnyFormat.{AnyFormat}
@@ -136,39 +136,58 @@ candidate_room geometry storages.Circular partition len copy page image =
 
 -- the same records, in room for each
 abbrev pub unlimited : AnyFormat → AnyFormat
-unlimited (Raw raw) = Raw (record { kind = raw.kind; room = record_limit })
+unlimited (Raw raw) = Raw (record { kind = raw.kind; old = raw.old; room = record_limit })
 unlimited (Dtb pattern) = Dtb pattern
 
-raw_alike : (key : Option (List ℕ)) (layout : Laid) (bytes : List ℕ) → length bytes ≤ copy_room layout →
-    (any_form (raw_under key layout)).passes bytes ≡ (any_form (unlimited (raw_under key layout))).passes bytes
-raw_alike key layout bytes short =
-    passes_as_anywhere (record { kind = record { magic = layout.magic; key = key }; room = copy_room layout }) bytes short
-    ∙ sym (passes_without_limit (record { kind = record { magic = layout.magic; key = key }; room = record_limit }) bytes refl)
+-- bytes pass as the same area in both forms, which is old in both or in neither
+abbrev PassAlike : Form → Form → List ℕ → Type 0
+PassAlike one other bytes = (one.passes bytes ≡ other.passes bytes) × (one.aged bytes ≡ other.aged bytes)
+
+raw_alike : (key old : Option (List ℕ)) (layout : Laid) (bytes : List ℕ) → length bytes ≤ copy_room layout →
+    PassAlike (any_form (raw_under key old layout)) (any_form (unlimited (raw_under key old layout))) bytes
+raw_alike key old layout bytes short =
+    let kind : RawKind = record { magic = layout.magic; key = key } in
+    let standing : RawRecords = record { kind = kind; old = old; room = copy_room layout } in
+    let any : RawRecords = record { kind = kind; old = old; room = record_limit } in
+    (passes_as_anywhere standing bytes short ∙ sym (passes_without_limit any bytes refl),
+    old_as_anywhere standing bytes short ∙ sym (old_without_limit any bytes refl))
 
 passes_alike : (format : FormatKind) (keyed : Keyed) (bytes : List ℕ) → length bytes ≤ copy_room keyed.layout →
-    (any_form (format_for format keyed)).passes bytes ≡ (any_form (unlimited (format_for format keyed))).passes bytes
-passes_alike formats.Raw keyed bytes short = raw_alike None keyed.layout bytes short
-passes_alike formats.RawHmac keyed bytes short = raw_alike keyed.key keyed.layout bytes short
-passes_alike formats.Dtb keyed bytes short = refl
+    PassAlike (any_form (format_for format keyed)) (any_form (unlimited (format_for format keyed))) bytes
+passes_alike formats.Raw keyed bytes short = raw_alike None None keyed.layout bytes short
+passes_alike formats.RawHmac keyed bytes short = raw_alike keyed.key keyed.old keyed.layout bytes short
+passes_alike formats.Dtb keyed bytes short = (refl, refl)
 
-candidate_alike : (one other : Form) (room : ℕ) (candidate : Option (List ℕ)) →
-    ((bytes : List ℕ) → length bytes ≤ room → one.passes bytes ≡ other.passes bytes) →
-    HasRoom room candidate → option_and_then one.passes candidate ≡ option_and_then other.passes candidate
+aged_alike : (one other : Form) (bytes : List ℕ) → PassAlike one other bytes →
+    aged_of one bytes ≡ aged_of other bytes
+aged_alike one other bytes alike =
+    ap (option_map (λ area. record { area = area; old = one.aged bytes })) alike.0
+    ∙ ap (λ (old : Bool). option_map (λ area. record { area = area; old = old }) (other.passes bytes)) alike.1
+
+candidate_alike : {A : Type 0} (one other : List ℕ → Option A) (room : ℕ) (candidate : Option (List ℕ)) →
+    ((bytes : List ℕ) → length bytes ≤ room → one bytes ≡ other bytes) →
+    HasRoom room candidate → option_and_then one candidate ≡ option_and_then other candidate
 candidate_alike one other room None alike short = refl
 candidate_alike one other room (Some bytes) alike short = alike bytes short
 
-passings_alike : (one other : Form) (layout : Laid) (len page : ℕ) (image : Image) (copies : List ℕ) →
-    ((bytes : List ℕ) → length bytes ≤ copy_room layout → one.passes bytes ≡ other.passes bytes) →
-    passings one page (kinds_of any_holding (map (bucket_at layout.geometry layout.storage layout.region len) copies)) image
-    ≡ passings other page (kinds_of any_holding (map (bucket_at layout.geometry layout.storage layout.region len) copies)) image
-passings_alike one other layout len page image [] alike = refl
-passings_alike one other layout len page image (copy ∷ copies) alike =
+-- what each of these copies passes in an image, by what bytes pass as
+abbrev passed_by : {A : Type 0} → (List ℕ → Option A) → ℕ → Image → List BucketKind → List (Option A)
+passed_by passes page image kinds =
+    map (λ kind. option_and_then passes (kind.candidate_of (part_of page kind.region image))) kinds
+
+passed_alike : {A : Type 0} (one other : List ℕ → Option A) (layout : Laid) (len page : ℕ) (image : Image) (copies : List ℕ) →
+    ((bytes : List ℕ) → length bytes ≤ copy_room layout → one bytes ≡ other bytes) →
+    passed_by one page image (kinds_of any_holding (map (bucket_at layout.geometry layout.storage layout.region len) copies))
+    ≡ passed_by other page image (kinds_of any_holding (map (bucket_at layout.geometry layout.storage layout.region len) copies))
+passed_alike one other layout len page image [] alike = refl
+passed_alike one other layout len page image (copy ∷ copies) alike =
     let kind : BucketKind = (any_holding (bucket_at layout.geometry layout.storage layout.region len copy)).kind in
     let rest : List BucketKind = kinds_of any_holding (map (bucket_at layout.geometry layout.storage layout.region len) copies) in
-    ap (λ passed. passed ∷ passings one page rest image)
-    (candidate_alike one other (copy_room layout) (kind.candidate_of (part_of page kind.region image)) alike
+    let candidate : Option (List ℕ) = kind.candidate_of (part_of page kind.region image) in
+    ap (λ passed. passed ∷ passed_by one page image rest)
+    (candidate_alike one other (copy_room layout) candidate alike
     (candidate_room layout.geometry layout.storage layout.region len copy page image))
-    ∙ ap (λ others. passing_of other page kind image ∷ others) (passings_alike one other layout len page image copies alike)
+    ∙ ap (λ others. option_and_then other candidate ∷ others) (passed_alike one other layout len page image copies alike)
 
 -- In each image each copy passes what it passes without a limit.
 pub limit_decides_nothing : (keyed : Keyed) (image : Image) →
@@ -176,5 +195,18 @@ pub limit_decides_nothing : (keyed : Keyed) (image : Image) →
     ≡ passings (any_form (unlimited (format_of keyed))) keyed.layout.geometry.page (laid_kinds keyed.layout) image
 limit_decides_nothing keyed image =
     let layout = keyed.layout in
-    passings_alike (any_form (format_of keyed)) (any_form (unlimited (format_of keyed))) layout (longest_len layout)
-    layout.geometry.page image (range_with_len 0 layout.copies) (passes_alike layout.format keyed)
+    passed_alike (any_form (format_of keyed)).passes (any_form (unlimited (format_of keyed))).passes layout
+    (longest_len layout) layout.geometry.page image (range_with_len 0 layout.copies)
+    (λ bytes short. (passes_alike layout.format keyed bytes short).0)
+
+-- And it is old where it is without a limit.
+pub limit_ages_nothing : (keyed : Keyed) (image : Image) →
+    laid_aged keyed image
+    ≡ aged_passings (any_form (unlimited (format_of keyed))) keyed.layout.geometry.page (laid_kinds keyed.layout) image
+limit_ages_nothing keyed image =
+    let layout = keyed.layout in
+    let one : Form = any_form (format_of keyed) in
+    let other : Form = any_form (unlimited (format_of keyed)) in
+    passed_alike (aged_of one) (aged_of other) layout
+    (longest_len layout) layout.geometry.page image (range_with_len 0 layout.copies)
+    (λ bytes short. aged_alike one other bytes (passes_alike layout.format keyed bytes short))

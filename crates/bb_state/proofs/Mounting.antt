@@ -27,8 +27,8 @@ use Rattle.bb_layout.specs.declared.format_kind.FormatKind.{FormatKind}
 use Rattle.bb_layout.specs.declared.format_kind.FormatKind.TheVariants.{Dtb, Raw, RawHmac}
 use Rattle.bb_layout.specs.declared.storage.Storage.{Storage}
 use Rattle.bb_layout.specs.declared.storage.Storage.TheVariants.{Stride, OneBlock, Circular}
-use Rattle.bb_state.specs.Keyed.{FitsKey, Keyed}
-use Rattle.bb_state.specs.Kinds.{any_form, any_holding, block_at, bucket_at, buckets_for, copy_room, format_for, format_of, key_of_format, laid_buckets, laid_form, laid_kinds, longest, longest_area, longest_len, raw_under}
+use Rattle.bb_state.specs.Keyed.{FitsKey, FitsOld, Keyed}
+use Rattle.bb_state.specs.Kinds.{any_form, any_holding, block_at, bucket_at, buckets_for, copy_room, format_for, format_of, key_of_format, laid_buckets, old_of_format, laid_form, laid_kinds, longest, longest_area, longest_len, raw_under}
 use Rattle.bb_state.specs.declared.any_bucket.AnyBucket.{AnyBucket}
 use Rattle.bb_state.specs.declared.any_bucket.AnyBucket.TheVariants as variants
 use Rattle.bb_state.specs.declared.any_format.AnyFormat.{AnyFormat}
@@ -387,6 +387,22 @@ key_at Dtb keyed fits = none_of keyed.key fits
 pub key_is : (keyed : Keyed) → FitsKey keyed.layout.format keyed.key → key_of_format (format_of keyed) ≡ keyed.key
 key_is keyed fits = key_at keyed.layout.format keyed fits
 
+-- no old key where none is taken
+no_old : (old : Option (List ℕ)) → (is_some old ≡ true → false ≡ true) → None ≡ old
+no_old None h = refl
+no_old (Some _) h = let clash : false ≡ true = h refl in absurd cc
+
+old_at : (format : FormatKind) (keyed : Keyed) → FitsOld format keyed.old → old_of_format (format_for format keyed) ≡ keyed.old
+old_at Raw keyed fits = no_old keyed.old fits
+old_at RawHmac keyed fits = refl
+old_at Dtb keyed fits = no_old keyed.old fits
+
+-- and under its old key that one
+pub old_is : (keyed : Keyed) → FitsOld keyed.layout.format keyed.old → old_of_format (format_of keyed) ≡ keyed.old
+old_is keyed fits = old_at keyed.layout.format keyed fits
+
 -- records without a key, where none is given
-pub raw_is : (keyed : Keyed) → FitsKey Raw keyed.key → raw_under keyed.key keyed.layout ≡ format_for Raw keyed
-raw_is keyed fits = ap (λ key. raw_under key keyed.layout) (sym (none_of keyed.key fits))
+pub raw_is : (keyed : Keyed) → FitsKey Raw keyed.key → FitsOld Raw keyed.old → raw_under keyed.key keyed.old keyed.layout ≡ format_for Raw keyed
+raw_is keyed fits old_fits =
+    ap (λ key. raw_under key keyed.old keyed.layout) (sym (none_of keyed.key fits))
+    ∙ ap (λ old. raw_under None old keyed.layout) (sym (no_old keyed.old old_fits))

@@ -27,8 +27,9 @@ use Rattle.bb_layout.specs.declared.format_kind.FormatKind.{FormatKind}
 use Rattle.bb_layout.specs.declared.format_kind.FormatKind.TheVariants as formats
 use Rattle.bb_layout.specs.declared.storage.Storage.{Storage}
 use Rattle.bb_layout.specs.declared.storage.Storage.TheVariants as storages
+use Rattle.bb_copies.specs.Ages.{AgedArea}
 use Rattle.bb_copies.specs.Buckets.{kinds_of}
-use Rattle.bb_copies.specs.Passing.{passings}
+use Rattle.bb_copies.specs.Passing.{aged_passings, passings}
 use Rattle.bb_state.specs.Keyed.{Keyed}
 use Rattle.bb_state.specs.declared.any_bucket.AnyBucket.{AnyBucket}
 use Rattle.bb_state.specs.declared.any_bucket.AnyBucket.TheVariants.{Stride, OneBlock, Circular}
@@ -131,17 +132,18 @@ laid_kinds layout = kinds_of any_holding (laid_buckets layout)
 abbrev pub copy_room : Laid → ℕ
 copy_room layout = spacing layout.geometry layout.storage - stride_header_len
 
--- raw records of its magic that stand in a copy, under a key or none
-abbrev pub raw_under : Option (List ℕ) → Laid → AnyFormat
-raw_under key layout = Raw (record {
+-- raw records of its magic that stand in a copy, under a key or none, and under an old one beside it
+abbrev pub raw_under : Option (List ℕ) → Option (List ℕ) → Laid → AnyFormat
+raw_under key old layout = Raw (record {
   kind = record { magic = layout.magic; key = key };
+  old = old;
   room = copy_room layout;
 })
 
 -- records of that format
 abbrev pub format_for : FormatKind → Keyed → AnyFormat
-format_for formats.Raw keyed = raw_under None keyed.layout
-format_for formats.RawHmac keyed = raw_under keyed.key keyed.layout
+format_for formats.Raw keyed = raw_under None None keyed.layout
+format_for formats.RawHmac keyed = raw_under keyed.key keyed.old keyed.layout
 format_for formats.Dtb keyed = Dtb (layout_pattern keyed.layout)
 
 -- its records, and what they are to the copies
@@ -160,7 +162,17 @@ abbrev pub key_of_format : AnyFormat → Option (List ℕ)
 key_of_format (Raw raw) = raw.kind.key
 key_of_format (Dtb pattern) = None
 
+-- and that of the old one
+abbrev pub old_of_format : AnyFormat → Option (List ℕ)
+old_of_format (Raw raw) = raw.old
+old_of_format (Dtb pattern) = None
+
 -- what each of its copies passes in an image: an area, or nothing
 abbrev pub laid_passings : Keyed → Image → List (Option (List ℕ))
 laid_passings keyed image =
     passings (laid_form keyed) keyed.layout.geometry.page (laid_kinds keyed.layout) image
+
+-- the same with whether it passes as an old area alone
+abbrev pub laid_aged : Keyed → Image → List (Option AgedArea)
+laid_aged keyed image =
+    aged_passings (laid_form keyed) keyed.layout.geometry.page (laid_kinds keyed.layout) image

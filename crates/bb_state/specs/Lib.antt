@@ -5,6 +5,7 @@ pub use Rattle.bb_flash.specs.Cuts
 pub use Rattle.bb_flash.specs.Device
 pub use Rattle.bb_bucket.specs.Calls
 pub use Rattle.bb_bucket.specs.Kind
+pub use Rattle.bb_copies.specs.Ages
 pub use Rattle.bb_copies.specs.Loading
 pub use Rattle.bb_copies.specs.Passing
 pub use Rattle.bb_copies.specs.Saving
@@ -12,6 +13,7 @@ pub use Rattle.bb_copies.specs.StandsFor
 pub mod Backed
 pub mod Blank
 pub mod Feeds
+pub mod KeyChange
 pub mod Keyed
 pub mod Kinds
 pub mod Lines

@@ -11,7 +11,7 @@ ghost use Rattle.bb_copies.specs.Store.{used_after};
 ghost use Rattle.bb_layout.specs.Convert.{convert};
 ghost use Rattle.bb_layout.specs.Layout.{fields_of};
 ghost use Rattle.bb_state.specs.Backed.{HasItsKinds, form_in, kinds_in};
-ghost use Rattle.bb_state.specs.Keyed.{FitsKey};
+ghost use Rattle.bb_state.specs.Keyed.{FitsKey, FitsOld};
 ghost use Rattle.bb_state.specs.Kinds.{any_form, any_holding, bucket_at, buckets_for, copy_room};
 ghost use Rattle.bb_state.specs.Kinds.{format_of, is_table, laid_buckets, longest};
 ghost use Rattle.bb_state.specs.Stored.{stored_len_of};
@@ -46,12 +46,16 @@ impl Model for Backing {
     ghost use Rattle.std.specs.Prelude.{take};
     ghost use Rattle.bb_layout.specs.Layout.{fields_of};
     ghost use Rattle.bb_state.specs.Backed.{Backed, IsBacked};
-    ghost use Rattle.bb_state.specs.Kinds.{key_of_format};
+    ghost use Rattle.bb_state.specs.Kinds.{key_of_format, old_of_format};
 
     ghost Value = { Backed };
 
     ghost view = { λ b. record {
-      keyed = record { layout = fields_of b.layout; key = key_of_format b.copies.format };
+      keyed = record {
+        layout = fields_of b.layout;
+        key = key_of_format b.copies.format;
+        old = old_of_format b.copies.format;
+      };
       buckets = b.copies.buckets;
       used = b.copies.used;
       sure = b.copies.sure;
@@ -60,7 +64,11 @@ impl Model for Backing {
     } };
 
     ghost invariant = { λ b.
-        IsBacked (record { layout = fields_of b.layout; key = key_of_format b.copies.format })
+        IsBacked (record {
+          layout = fields_of b.layout;
+          key = key_of_format b.copies.format;
+          old = old_of_format b.copies.format;
+        })
         b.copies.buckets b.copies.format b.copies.most b.memory.items b.stored_len b.kept.items };
 }
 
@@ -70,17 +78,19 @@ impl Backing {
         alloc: Global,
         layout: Layout,
         key: Option<Key>,
+        old: Option<Key>,
     ) -> Result<Backing, NoMemory>
-        requires { FitsKey layout.format key }
+        requires key { FitsKey layout.format key }
+        requires old { FitsOld layout.format old }
         ensures keyed { IfOk result (λ b.
-            b.keyed ≡ record { layout = fields_of layout; key = key }) }
+            b.keyed ≡ record { layout = fields_of layout; key = key; old = old }) }
         ensures buckets { IfOk result (λ b. b.buckets ≡ laid_buckets (fields_of layout)) }
         ensures agrees { IfOk result (λ b.
             (device : Device) → AllAgree any_holding device b.buckets) }
         ensures sure { IfOk result (λ b. b.sure ≡ false) }
     {
         let kept = vec![in alloc; 0u8; layout.area_len as usize]?;
-        let format = format_of(alloc, &layout, key)?;
+        let format = format_of(alloc, &layout, key, old)?;
         let most = longest_of(&format);
         let buckets = buckets_of(alloc, &layout, most)?;
         let memory = vec![in alloc; 0u8; format.area_len()]?;
@@ -268,14 +278,20 @@ fn bucket_at(alloc: Global, layout: &Layout, most: usize, copy: u32) -> Result<A
 }
 
 #[tactic(auto, using(crate::proofs::Mounting::raw_is))]
-fn format_of(alloc: Global, layout: &Layout, key: Option<Key>) -> Result<AnyFormat, NoMemory>
-    requires { FitsKey layout.now.format key }
+fn format_of(
+    alloc: Global,
+    layout: &Layout,
+    key: Option<Key>,
+    old: Option<Key>,
+) -> Result<AnyFormat, NoMemory>
+    requires key { FitsKey layout.now.format key }
+    requires old { FitsOld layout.now.format old }
     ensures { IfOk result (λ format. format
-        ≡ format_of (record { layout = fields_of layout.now; key = key })) }
+        ≡ format_of (record { layout = fields_of layout.now; key = key; old = old })) }
 {
     match layout.format {
         FormatKind::Raw | FormatKind::RawHmac => {
-            let raw = Raw::within(layout.magic, key, copy_room(layout));
+            let raw = Raw::within(layout.magic, key, old, copy_room(layout));
             Ok(AnyFormat::Raw(raw))
         }
         FormatKind::Dtb => Ok(AnyFormat::Dtb(Dtb::of(alloc, layout)?)),

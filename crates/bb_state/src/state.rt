@@ -41,7 +41,7 @@ impl State {
     ghost use Rattle.bb_layout.specs.Layout.{fields_of};
     ghost use Rattle.bb_layout.specs.Outside.{ChangesVarsAlone};
     ghost use Rattle.bb_state.specs.Backed.{HasItsKinds};
-    ghost use Rattle.bb_state.specs.Keyed.{FitsKey};
+    ghost use Rattle.bb_state.specs.Keyed.{FitsKey, FitsOld};
     ghost use Rattle.bb_state.specs.Kinds.{format_of};
     ghost use Rattle.bb_state.specs.Named.{Refuses, after_set, refusal_for, text_for};
     ghost use Rattle.bb_state.specs.State.{form_of, kinds_of, looked_as, FitsEveryDevice, IsOn};
@@ -49,18 +49,25 @@ impl State {
     ghost use Rattle.bb_state.specs.State.{last_table_of, keyed_of, laid_of, used_of};
 
     /// The state of a layout, of which no copy was looked at yet. The table has the defaults. A key
-    /// is given exactly where the layout's records are kept under one.
-    pub fn mount(alloc: Global, layout: Layout, key: Option<Key>) -> Result<State, NoMemory>
-        requires { FitsKey layout.format key }
+    /// is given exactly where the layout's records are kept under one, and an old key only there:
+    /// records then pass under either, and are written under the key.
+    pub fn mount(
+        alloc: Global,
+        layout: Layout,
+        key: Option<Key>,
+        old: Option<Key>,
+    ) -> Result<State, NoMemory>
+        requires key { FitsKey layout.format key }
+        requires old { FitsOld layout.format old }
         ensures keyed { IfOk result (λ state.
-            keyed_of state ≡ record { layout = fields_of layout; key = key }) }
+            keyed_of state ≡ record { layout = fields_of layout; key = key; old = old }) }
         ensures table { IfOk result (λ state.
             state.table ≡ defaults_of layout.area_len layout.vars) }
         ensures sure { IfOk result (λ state. is_sure state ≡ false) }
         ensures fresh { IfOk result FitsEveryDevice }
     {
         let table = defaults(alloc, &layout)?;
-        let backing = Backing::mount(alloc, layout, key)?;
+        let backing = Backing::mount(alloc, layout, key, old)?;
         Ok(State { table, backing })
     }
 
@@ -103,8 +110,8 @@ impl State {
     /// Reads all copies. The table is then the area of the first that passes, as the layout reads
     /// it: the stored area may be shorter or longer, as one that was saved under another layout of
     /// the family. All copies then pass the stored area or nothing: those that don't are written,
-    /// as it is stored. Where no copy passes the table has the defaults. After a refusal it is as
-    /// before.
+    /// as it is stored, and so are those that pass it under the old key alone. Where no copy passes
+    /// the table has the defaults. After a refusal it is as before.
     pub fn load<F: Flash>(&mut self, flash: &mut F) -> Result<Loaded, CopyFault>
         requires { IsOn self.old (F.device flash.old) }
         ensures load { IsLoad (form_of self.old) (kinds_of self.old) (stored_of self.new)

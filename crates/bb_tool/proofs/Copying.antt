@@ -6,6 +6,7 @@ use Rattle.bb_session.specs.Acting.{WorkAnswers}
 use Rattle.bb_bucket.proofs.Quiet.{keeps_of_quiet}
 use Rattle.bb_plan.specs.Plan.{Compared, Drilled, EarlyEnd, Printed, Refused, SessionPlan}
 use Rattle.bb_plan.specs.declared.refusal.Refusal.TheVariants as refusals
+use Rattle.bb_session.proofs.Aging.{leaves_ages, sends_counts}
 use Rattle.bb_session.proofs.Exact.{plan_done, plan_makes}
 use Rattle.bb_session.proofs.Faults.{work_explains, write_fault, read_fault}
 use Rattle.bb_session.proofs.Safe.{holds_after, work_safe}
@@ -16,7 +17,7 @@ use Rattle.bb_session.specs.Comparing.{CompareAnswer}
 use Rattle.bb_session.specs.Session.{Answers, Session, session_by, work_session}
 use Rattle.bb_session.specs.Work.{IsWork}
 use Rattle.bb_tool.specs.Calls.{MayAnswer, session_for, session_plan_for}
-use Rattle.bb_tool.specs.Copying.{EachCalm, HoldsWhereDone, InstallsSafely, KeepsATrail, KeepsAtExit, KeepsOutsideCopies, KnowsSlotFaults, KnowsWriteFaults, LeavesUnread}
+use Rattle.bb_tool.specs.Copying.{CountsItsCopies, EachCalm, HoldsWhereDone, InstallsSafely, KeepsATrail, KeepsAtExit, KeepsNoneOld, KeepsOutsideCopies, KnowsSlotFaults, KnowsWriteFaults, LeavesUnread}
 use Rattle.bb_tool.specs.Ran.{Ran}
 use Rattle.bb_tool.specs.SessionAnswer.{IsEnded, IsFollowed}
 use Rattle.bb_tool.proofs.Endings.{From, PlanEnd, To}
@@ -54,6 +55,14 @@ pub holds_of : (ran : Ran) → HoldsWhereDone ran
 holds_of ran answers plan answered is done =
     holds_after plan ran.before.device ran.after.device answers.load answers.work (work_of ran answers plan answered is)
     (ap (λ (s : Session). s.refusal) (followed_is ran answers plan is) ∙ done)
+
+pub ages_of : (ran : Ran) → KeepsNoneOld ran
+ages_of ran answers plan answered is needs =
+    leaves_ages plan ran.before.device ran.after.device answers.load answers.work needs (work_of ran answers plan answered is)
+
+pub counts_of : (ran : Ran) → CountsItsCopies ran
+counts_of ran answers plan answered is rekeys =
+    sends_counts plan ran.before.device ran.after.device answers.load answers.work rekeys (work_of ran answers plan answered is)
 
 -- ---- where no call of the device failed
 

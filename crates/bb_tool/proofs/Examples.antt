@@ -34,6 +34,7 @@ use Rattle.bb_plan.specs.declared.plan.Work.TheVariants.{Boot}
 use Rattle.bb_plan.specs.PlanSteps.{plans_reading}
 use Rattle.bb_tool.specs.Lines.{line_of}
 use Rattle.bb_session.specs.Acting.{WorkAnswers, no_answers}
+use Rattle.bb_session.specs.Rekeying.{no_counts}
 use Rattle.bb_session.specs.Session.{Answers, LoadAnswer, Session, done_with, refused_for, session_of, work_session}
 use Rattle.bb_tool.specs.Sending.{sent_of}
 use Rattle.bb_session.specs.SessionTurns.{turn_of}
@@ -51,7 +52,7 @@ abbrev unmade : RoundAnswer
 unmade = record { save = Some (faults.WriteFault 1); starts = false }
 
 abbrev answered : List RoundAnswer → WorkAnswers
-answered rounds = record { rounds = rounds; grants = None; stuck = None; listed = [] }
+answered rounds = record { rounds = rounds; grants = None; stuck = None; listed = []; counts = no_counts }
 
 -- ---- sessions, for what was answered
 

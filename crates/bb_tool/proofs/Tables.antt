@@ -27,7 +27,7 @@ use Rattle.bb_plan.specs.declared.refusal.Refusal.TheVariants as refusals
 use Rattle.bb_plan.specs.declared.status.Status.{Status}
 use Rattle.bb_plan.specs.declared.status.Status.TheVariants as statuses
 use Rattle.bb_plan.proofs.Plans.{plan_refusal}
-use Rattle.bb_session.specs.Acting.{Acts, AreRoundsOf, BootsFrom, Lists, Plays, SavesAround, Stops, WorkAnswers, play_of, refusal_by_table, rounds_for, save_rounds_around, start_plans_of}
+use Rattle.bb_session.specs.Acting.{Acts, AreRoundsOf, BootsFrom, Lists, Plays, SavesAround, SendsCounts, Stops, WorkAnswers, play_of, refusal_by_table, rounds_for, save_rounds_around, start_plans_of}
 use Rattle.bb_session.specs.Around.{slot_refusal}
 use Rattle.bb_session.specs.Booting.{end_refusal}
 use Rattle.bb_session.specs.Scripting.{refusal_by_end}
@@ -129,6 +129,7 @@ acted_end plan found (SavesAround first place second) answers are =
       inl refl,
     )
 acted_end plan found Lists answers are = inr (refl, inl refl)
+acted_end plan found SendsCounts answers are = inr (refl, inl refl)
 acted_end plan found acts answers are =
     let plans = start_plans_of plan.work in
     acts_end plan found plans acts (rounds_for plans acts answers) are

@@ -37,24 +37,24 @@ use Rattle.bb_tool.specs.Sending.{IsSent, sent_of}
 -- ---- nothing failed
 
 load_same : (plan : SessionPlan) (from to : Device) (load : LoadAnswer) (answers : WorkAnswers) → IsWork plan from to load answers → HasNoFault (work_session plan load answers) →
-    HasMemory (work_session plan load answers) → (image : Image) → content from ≡ Some image →
+    HasMemory (work_session plan load answers) → (Rose from.faults to.faults → ⊥) → (image : Image) → content from ≡ Some image →
     let held : LoadAnswer = Ok (first_found (passed_in plan.keyed from.geometry.page image)) in
     IsCalm from to (work_session plan held (sound_over plan from.geometry.page image held)) →
     work_session plan load answers ≡ work_session plan held (sound_over plan from.geometry.page image held)
-load_same plan from to (Err fault) answers done none memory image told calm =
+load_same plan from to (Err fault) answers done none memory still image told calm =
     absurd (let e : true ≡ false = sym (fault_call fault) ∙ none in cc)
-load_same plan from to (Ok found) answers done none memory image told calm =
+load_same plan from to (Ok found) answers done none memory still image told calm =
     let same = work_gives plan from to found answers done image told in
     let sound : Option (List ℕ) → Session =
     λ f. work_session plan (Ok f) (sound_over plan from.geometry.page image (Ok f)) in
-    work_same plan from to found answers done none memory image told
+    work_same plan from to found answers done none memory image told still
     (subst (λ f. IsCalm from to (sound f)) (sym same) calm)
     ∙ ap sound same
 
 plan_same : (plan : Result SessionPlan EarlyEnd) (before after : Device) (answers : Answers) (files : FileAnswers) → IsFollowed plan before after answers → (Rose before.faults after.faults → ⊥) → HasMemory (session_by plan answers) → (image : Image) → content before ≡ Some image → IsCalm before after (session_by plan (answers_to files plan before.geometry image answers.drill answers.compared)) → session_by plan answers ≡ session_by plan (answers_to files plan before.geometry image answers.drill answers.compared)
 plan_same (Err end) before after answers files done whole memory image told calm = refl
 plan_same (Ok plan) before after answers files done whole memory image told calm =
-    load_same plan before after answers.load answers.work done (unrefused plan before after answers.load answers.work done whole) memory image told calm
+    load_same plan before after answers.load answers.work done (unrefused plan before after answers.load answers.work done whole) memory whole image told calm
 
 -- the session is that of what is held, where the plan is
 session_same : (ran : Ran) (answers : Answers) → MayAnswer ran answers → (files : FileMap) →

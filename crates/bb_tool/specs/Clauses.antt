@@ -1,7 +1,7 @@
 -- The clauses of `run`, in the order of its contract: each is a record of named facts about one
 -- call, and none of them names a command.
 use Rattle.bb_tool.specs.Calls.{AsksNothing, ComesByDevice, ComesByFiles, ComesByPlan, ComesByPlanAlone, ComesByReads, ComesBySink, ComesByTable, ComesByWords, CountsFileFaults, CountsSinkFaults, CutsTheText, IsSession, IsUndisturbed, IsUndisturbedAlone, KeepsFiles, KeepsHistory, LeavesUnnamedFiles, WantsMemory, LeavesUnplanned, LeavesUnplannedAlone}
-use Rattle.bb_tool.specs.Copying.{EndsDoneAlone, HoldsWhereDone, InstallsSafely, KeepsATrail, KeepsAtExit, KeepsOutsideCopies, KnowsSlotFaults, KnowsWriteFaults, LeavesUnread, MakesAlike, MakesNoOtherCall, MakesTheSlot, NamesTheCopy, NamesThePlace, StopsAtFileFault, StopsBetweenSaves, WearsExactly, WritesExactly}
+use Rattle.bb_tool.specs.Copying.{CountsItsCopies, EndsDoneAlone, HoldsWhereDone, InstallsSafely, KeepsATrail, KeepsAtExit, KeepsNoneOld, KeepsOutsideCopies, KnowsSlotFaults, KnowsWriteFaults, LeavesUnread, MakesAlike, MakesNoOtherCall, MakesTheSlot, NamesTheCopy, NamesThePlace, StopsAtFileFault, StopsBetweenSaves, WearsExactly, WritesExactly}
 use Rattle.bb_tool.specs.Ran.{Ran}
 use Rattle.bb_tool.specs.ScriptEnds.{ComesByEnd, IsFailedEnd, IsLimitedEnd, ShowsTheStatus}
 use Rattle.bb_tool.specs.Starting.{BootsInTurn, CountsFailedStarts, KnowsStartFaults, NamesTheTarget, RunsRounds, StartsAtMostOne, StartsAfterSave, StartsTheLast}
@@ -43,6 +43,10 @@ pub record KeepsTheCopies (ran : Ran) : Type 0 where
   pub safe : InstallsSafely ran
   -- and where the session is done it holds its image
   pub holds : HoldsWhereDone ran
+  -- no fault makes one pass under the old key alone, and saves that are made leave none that does
+  pub ages : KeepsNoneOld ran
+  -- a change of key sends how many do
+  pub counts : CountsItsCopies ran
 
 -- where nothing failed
 pub record WorksUndisturbed (ran : Ran) : Type 0 where

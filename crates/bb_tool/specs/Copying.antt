@@ -12,11 +12,13 @@ use Rattle.bb_session.specs.Around.{KeepsOutsideBoth, slot_of_work}
 use Rattle.bb_session.specs.Exactly.{CallsExactly, EndsAlike, ErasesExactly, HoldsInSlot, LeavesExactly}
 use Rattle.bb_plan.specs.Plan.{EarlyEnd, IsRefusedWith, SessionPlan, copies_in}
 use Rattle.bb_tool.specs.Ran.{Ran}
-use Rattle.bb_session.specs.Acting.{WorkAnswers}
+use Rattle.bb_session.specs.Acting.{WorkAnswers, needs_table}
+use Rattle.bb_session.specs.Aging.{LeavesAges, SendsItsCounts}
 use Rattle.bb_session.specs.Safe.{HoldsAfter, IsSafe}
 use Rattle.bb_session.specs.Session.{Answers}
 use Rattle.bb_session.specs.SessionTurns.{HasTrails, LeadsOn}
 use Rattle.bb_session.specs.WriteFault.{IsWriteFault, RoseAboveLost}
+use Rattle.bb_plan.specs.declared.plan.Work.TheVariants.{Rekey}
 use Rattle.bb_plan.specs.declared.refusal.Refusal.TheVariants as refusals
 use Rattle.bb_plan.specs.declared.status.Status.{Status}
 use Rattle.bb_plan.specs.declared.status.Status.TheVariants as statuses
@@ -68,6 +70,23 @@ HoldsWhereDone ran =
     (λ plan answers.
     (session_for ran answers).refusal ≡ None
     → HoldsAfter plan ran.before.device ran.after.device answers.load)
+
+-- Of a work that loads: where no copy passes under the old key alone, none does in any image since.
+-- None does at exit where the load counted none, or where a save was begun and each answered Ok.
+abbrev pub KeepsNoneOld : Ran → Type 0
+KeepsNoneOld ran =
+    EachWork ran
+    (λ plan answers.
+    needs_table plan.work ≡ true →
+    LeavesAges plan ran.before.device ran.after.device answers.load answers.work)
+
+-- what a change of key sends is what its load counted
+abbrev pub CountsItsCopies : Ran → Type 0
+CountsItsCopies ran =
+    EachWork ran
+    (λ plan answers.
+    plan.work ≡ Rekey →
+    SendsItsCounts plan ran.before.device ran.after.device answers.load answers.work)
 
 -- ---- where no call of the device failed
 

@@ -16,6 +16,7 @@ pub use Rattle.bb_shell.specs.Counting
 pub use Rattle.bb_shell.specs.Ends
 pub use Rattle.bb_shell.specs.Rounds
 pub use Rattle.bb_shell.specs.Stages
+pub use Rattle.bb_state.specs.KeyChange
 pub use Rattle.bb_state.specs.Kinds
 pub use Rattle.bb_state.specs.State
 pub use Rattle.bb_words.specs.Words

@@ -4,20 +4,31 @@ ghost use Rattle.bb_copies.specs.Cutting.{CutLaw};
 ghost use Rattle.bb_shell.specs.Counting.{AttemptsLaw, NoLoadLaw};
 ghost use Rattle.bb_shell.specs.Cutting.{BootCutLaw};
 ghost use Rattle.bb_session.specs.SessionTurns.{BlankLaw, FamilyLaw};
+ghost use Rattle.bb_state.specs.KeyChange.{KeyChangeLaw};
 
 /// Over every list of sessions, of sessions that were cut and of decays: the number of the area
 /// that is acknowledged never falls, all that was acknowledged stays, and each load that answers Ok
 /// gives the last acknowledged area or a later one. On a device that holds 0xFF alone no copy
 /// passes anything, and it stands for the empty area alone, which every layout reads as its
 /// defaults, for every layout, key and format and whatever health its pages have. The layouts of
-/// the sessions may differ, if they are of one family: their copies pass the same. What stands for
-/// a stage that a session's turn reached is what a session leaves that was cut there, and whose
-/// turn is how that one begins.
+/// the sessions may differ, if they are of one family: under the same keys their copies pass the
+/// same. What stands for a stage that a session's turn reached is what a session leaves that was
+/// cut there, and whose turn is how that one begins.
 pub fn law_chronicle()
     ensures kept { ChronicleLaw }
     ensures blank { BlankLaw }
     ensures family { FamilyLaw }
     ensures cut { CutLaw }
+{}
+
+/// Of a key that is being changed. Where no copy passes under the new key alone, the copies stand
+/// under both keys for what they stand for under the old one: so a chronicle under one key goes on
+/// under the new one and the old one beside it. Where none passes under the old key alone they
+/// stand under the new one alone for what they stand for under both: so it goes on without the old
+/// key after a session that leaves none, as `run` says. No decay makes a copy pass under another
+/// key.
+pub fn law_rekey()
+    ensures { KeyChangeLaw }
 {}
 
 /// Over power-ons in each of which a board boots by the same files, with cuts and decays in

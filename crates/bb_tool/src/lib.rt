@@ -9,6 +9,6 @@ mod send;
 mod session;
 
 pub use bb_plan::Status;
-pub use law::{law_attempts, law_chronicle, law_wear};
+pub use law::{law_attempts, law_chronicle, law_rekey, law_wear};
 pub use send::{send_fault, send_text};
 pub use session::run;

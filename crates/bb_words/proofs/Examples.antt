@@ -4,7 +4,7 @@ use Rattle.hex.specs.Hex.{decode_pairs}
 use Rattle.bb_words.specs.declared.command.CauseWord.{CauseWord}
 use Rattle.bb_words.specs.declared.command.CauseWord.TheVariants.{PowerOn, Reset, Other}
 use Rattle.bb_words.specs.declared.command.Command.{Command}
-use Rattle.bb_words.specs.declared.command.Command.TheVariants.{State, MarkGood, Boot, Shell, Install, Verify, Menu, History}
+use Rattle.bb_words.specs.declared.command.Command.TheVariants.{State, MarkGood, Boot, Shell, Install, Verify, Menu, History, Rekey}
 use Rattle.bb_words.specs.declared.command.Action.{Action}
 use Rattle.bb_words.specs.declared.command.Action.TheVariants.{Set, Get, Dump, DumpShell}
 use Rattle.bb_words.specs.declared.command.RawAction.TheVariants.{Look, Write}
@@ -69,7 +69,7 @@ no_long_form = refl
 -- ---- `state`
 
 abbrev state : List ℕ → Option (List ℕ) → List Action → Command
-state file name actions = State (record { described = record { file = file; name = name; key = None }; actions = actions })
+state file name actions = State (record { described = record { file = file; name = name; key = None; old_key = None }; actions = actions })
 
 all_options : words_of (codes "state" ∷ codes "-d" ∷ codes "-n" ∷ codes "boot" ∷ codes "--get=a" ∷ codes "--input" ∷ codes "x.dts" ∷ codes "--dump-shell" ∷ codes "-g" ∷ codes "-d" ∷ codes "--dump" ∷ [])
     ≡ Ok (state (codes "x.dts") (Some (codes "boot")) (Dump ∷ Get (codes "a") ∷ DumpShell ∷ Get (codes "-d") ∷ Dump ∷ []))
@@ -130,7 +130,7 @@ unfolding words_from
 long_set_without_sign = refl
 
 state_key : words_of (codes "state" ∷ codes "-k" ∷ codes "a=b" ∷ codes "-i" ∷ codes "-k" ∷ [])
-    ≡ Ok (State (record { described = record { file = codes "-k"; name = None; key = Some (codes "a=b") }; actions = [] }))
+    ≡ Ok (State (record { described = record { file = codes "-k"; name = None; key = Some (codes "a=b"); old_key = None }; actions = [] }))
 unfolding words_from
 state_key = refl
 
@@ -157,7 +157,7 @@ long_key = refl
 -- ---- `mark-good`
 
 abbrev mark : List ℕ → List ℕ → Option (List ℕ) → Command
-mark file settings name = MarkGood (record { described = record { file = file; name = name; key = None }; settings = settings })
+mark file settings name = MarkGood (record { described = record { file = file; name = name; key = None; old_key = None }; settings = settings })
 
 good : words_of (codes "mark-good" ∷ codes "-i" ∷ codes "b.dts" ∷ codes "-c" ∷ codes "set.txt" ∷ [])
     ≡ Ok (mark (codes "b.dts") (codes "set.txt") None)
@@ -170,7 +170,7 @@ unfolding words_from
 good_any_order = refl
 
 good_key : words_of (codes "mark-good" ∷ codes "-k" ∷ codes "-c" ∷ codes "-c" ∷ codes "-k" ∷ codes "-i" ∷ codes "f" ∷ [])
-    ≡ Ok (MarkGood (record { described = record { file = codes "f"; name = None; key = Some (codes "-c") }; settings = codes "-k" }))
+    ≡ Ok (MarkGood (record { described = record { file = codes "f"; name = None; key = Some (codes "-c"); old_key = None }; settings = codes "-k" }))
 unfolding words_from
 good_key = refl
 
@@ -205,7 +205,7 @@ good_dumps_nothing = refl
 -- ---- `boot`
 
 abbrev boot : List ℕ → List ℕ → Option (List ℕ) → CauseWord → Command
-boot file settings name cause = Boot (record { described = record { file = file; name = name; key = None }; settings = settings; cause = cause })
+boot file settings name cause = Boot (record { described = record { file = file; name = name; key = None; old_key = None }; settings = settings; cause = cause })
 
 boot_alone : words_of (codes "boot" ∷ codes "-i" ∷ codes "b.dts" ∷ codes "-c" ∷ codes "set.txt" ∷ [])
     ≡ Ok (boot (codes "b.dts") (codes "set.txt") None Other)
@@ -228,7 +228,7 @@ unfolding words_from
 boot_other = refl
 
 boot_key : words_of (codes "boot" ∷ codes "-c" ∷ codes "a" ∷ codes "-i" ∷ codes "b" ∷ codes "-k" ∷ codes "c" ∷ [])
-    ≡ Ok (Boot (record { described = record { file = codes "b"; name = None; key = Some (codes "c") }; settings = codes "a"; cause = Other }))
+    ≡ Ok (Boot (record { described = record { file = codes "b"; name = None; key = Some (codes "c"); old_key = None }; settings = codes "a"; cause = Other }))
 unfolding words_from
 boot_key = refl
 
@@ -272,7 +272,7 @@ boot_dumps_nothing = refl
 
 abbrev shell : List ℕ → List ℕ → List ℕ → Option (List ℕ) → CauseWord → Command
 shell file settings script key cause = Shell (record {
-  boot = record { described = record { file = file; name = None; key = key }; settings = settings; cause = cause };
+  boot = record { described = record { file = file; name = None; key = key; old_key = None }; settings = settings; cause = cause };
   script = script;
 })
 
@@ -333,7 +333,7 @@ but_digest = codes "install" ∷ codes "-i" ∷ codes "b.dts" ∷ codes "-c" ∷
 
 abbrev install : Option (List ℕ) → List ℕ → Command
 install key digest = Install (record {
-  described = record { file = codes "b.dts"; name = None; key = key };
+  described = record { file = codes "b.dts"; name = None; key = key; old_key = None };
   settings = codes "set.txt";
   target = codes "system0";
   slot = record { label = codes "root0"; image = codes "image" };
@@ -369,7 +369,7 @@ unfolding words_from
 second_target = refl
 
 verify_any_order : words_of (codes "verify" ∷ codes "-f" ∷ codes "-p" ∷ codes "-p" ∷ codes "-f" ∷ codes "--name=a" ∷ codes "--input" ∷ codes "x" ∷ [])
-    ≡ Ok (Verify (record { described = record { file = codes "x"; name = Some (codes "a"); key = None }; slot = record { label = codes "-f"; image = codes "-p" } }))
+    ≡ Ok (Verify (record { described = record { file = codes "x"; name = Some (codes "a"); key = None; old_key = None }; slot = record { label = codes "-f"; image = codes "-p" } }))
 unfolding words_from
 verify_any_order = refl
 
@@ -393,7 +393,7 @@ target_of_boot = refl
 
 abbrev history : List ℕ → Option (List ℕ) → Option (List ℕ) → Command
 history file name key =
-    History (record { described = record { file = file; name = name; key = key } })
+    History (record { described = record { file = file; name = name; key = key; old_key = None } })
 
 history_alone : words_of (codes "history" ∷ codes "-i" ∷ codes "b.dts" ∷ []) ≡ Ok (history (codes "b.dts") None None)
 unfolding words_from
@@ -453,3 +453,43 @@ menu_fourth = refl
 menu_twice : words_of (codes "menu" ∷ codes "--dir" ∷ codes "m" ∷ codes "--dir" ∷ codes "n" ∷ []) ≡ Err 3
 unfolding words_from
 menu_twice = refl
+
+-- ---- rekey, and an old key
+
+rekey_words : words_of (codes "rekey" ∷ codes "-i" ∷ codes "f" ∷ codes "-k" ∷ codes "b" ∷ codes "--old-key" ∷ codes "a" ∷ [])
+    ≡ Ok (Rekey (record { described = record { file = codes "f"; name = None; key = Some (codes "b"); old_key = Some (codes "a") } }))
+unfolding words_from
+rekey_words = refl
+
+rekey_without_its_old_key : words_of (codes "rekey" ∷ codes "-i" ∷ codes "f" ∷ codes "-k" ∷ codes "b" ∷ []) ≡ Err 5
+unfolding words_from
+rekey_without_its_old_key = refl
+
+rekey_without_its_key : words_of (codes "rekey" ∷ codes "-i" ∷ codes "f" ∷ codes "--old-key" ∷ codes "a" ∷ []) ≡ Err 5
+unfolding words_from
+rekey_without_its_key = refl
+
+rekey_reads_no_variable : words_of (codes "rekey" ∷ codes "-i" ∷ codes "f" ∷ codes "-g" ∷ codes "v" ∷ []) ≡ Err 3
+unfolding words_from
+rekey_reads_no_variable = refl
+
+old_key_twice : words_of (codes "state" ∷ codes "--old-key" ∷ codes "a" ∷ codes "--old-key" ∷ codes "a" ∷ []) ≡ Err 3
+unfolding words_from
+old_key_twice = refl
+
+old_key_joined : words_of (codes "state" ∷ codes "--old-key=a" ∷ []) ≡ Err 1
+unfolding words_from
+old_key_joined = refl
+
+install_old_key : words_of (but_digest ++ codes "--sha256" ∷ zero_digits ∷ codes "-k" ∷ codes "b" ∷ codes "--old-key" ∷ codes "a" ∷ codes "--old-key" ∷ []) ≡ Err 17
+unfolding words_from decode_pairs
+install_old_key = refl
+
+history_old_key : words_of (codes "history" ∷ codes "--old-key" ∷ codes "a" ∷ codes "-i" ∷ codes "f" ∷ codes "-k" ∷ codes "b" ∷ [])
+    ≡ Ok (History (record { described = record { file = codes "f"; name = None; key = Some (codes "b"); old_key = Some (codes "a") } }))
+unfolding words_from
+history_old_key = refl
+
+old_key_of_verify : words_of (codes "verify" ∷ codes "--old-key" ∷ codes "a" ∷ []) ≡ Err 1
+unfolding words_from
+old_key_of_verify = refl

@@ -12,7 +12,7 @@ use Rattle.bb_words.specs.declared.command.Command.TheVariants as commands
 use Rattle.bb_words.specs.declared.command.RawAction.TheVariants.{Look, Write}
 use Rattle.bb_words.specs.declared.given.Given.{Given}
 use Rattle.bb_words.specs.declared.option.Valued.{Valued}
-use Rattle.bb_words.specs.declared.option.Valued.TheVariants.{Input, Name, Get as GetOption, Set as SetOption, Settings, Script, Key, Target, Label, Image, Digest, Cause}
+use Rattle.bb_words.specs.declared.option.Valued.TheVariants.{Input, Name, Get as GetOption, Set as SetOption, Settings, Script, Key, OldKey, Target, Label, Image, Digest, Cause}
 use Rattle.bb_words.specs.declared.row.Row.{Row}
 use Rattle.bb_words.specs.declared.row.Row.TheVariants as rows
 use Rattle.bb_words.specs.FirstBad.{Begins}
@@ -191,6 +191,19 @@ verify_completed start file given None (Some image) = (codes "-p" ∷ [] ∷ [],
 verify_completed start file given (Some label) None = (codes "-f" ∷ [] ∷ [], _, refl)
 verify_completed start file given (Some label) (Some image) = ([], _, refl)
 
+-- and the keys, in one
+abbrev with_keys : Given → List ℕ → Option (List ℕ) → Option (List ℕ) → Given
+with_keys given file key old = record given { file = Some file; key = key; old_key = old }
+
+rekey_completed : (start : ℕ) (file : List ℕ) (given : Given) (key old : Option (List ℕ)) →
+    Continues start (Options rows.Rekey None (with_keys given file key old)) []
+unfolding words_from
+rekey_completed start file given None None =
+    (codes "-k" ∷ [] ∷ codes "--old-key" ∷ [] ∷ [], _, refl)
+rekey_completed start file given None (Some old) = (codes "-k" ∷ [] ∷ [], _, refl)
+rekey_completed start file given (Some key) None = (codes "--old-key" ∷ [] ∷ [], _, refl)
+rekey_completed start file given (Some key) (Some old) = ([], _, refl)
+
 row_completed : (row : Row) (given : Given) (start : ℕ) (file : List ℕ) →
     Continues start (Options row None (record given { file = Some file })) []
 unfolding words_from
@@ -202,6 +215,8 @@ row_completed rows.Shell given start file =
 row_completed rows.Install given start file = install_completed start file given
 row_completed rows.Verify given start file = verify_completed start file given given.label given.image
 row_completed rows.History given start file = ([], _, refl)
+row_completed rows.Rekey given start file =
+    rekey_completed start file given given.key given.old_key
 
 options_completed : (start : ℕ) (row : Row) (given : Given) →
     Continues start (Options row None given) []
@@ -225,6 +240,9 @@ value_completed start row Script given =
     ([] ∷ rest.0, rest.1, rest.2)
 value_completed start row Key given =
     let rest = options_completed (start + 1) row (record given { key = Some [] }) in
+    ([] ∷ rest.0, rest.1, rest.2)
+value_completed start row OldKey given =
+    let rest = options_completed (start + 1) row (record given { old_key = Some [] }) in
     ([] ∷ rest.0, rest.1, rest.2)
 value_completed start row Target given =
     let rest = options_completed (start + 1) row (record given { target = Some [] }) in

@@ -19,15 +19,16 @@ use Rattle.bb_words.specs.declared.command.InstallCommand.{InstallCommand}
 use Rattle.bb_words.specs.declared.command.RawAction.{RawAction}
 use Rattle.bb_words.specs.declared.command.RawAction.TheVariants.{Look, Write}
 use Rattle.bb_words.specs.declared.command.RawCommand.{RawCommand}
+use Rattle.bb_words.specs.declared.command.RekeyCommand.{RekeyCommand}
 use Rattle.bb_words.specs.declared.command.VerifyCommand.{VerifyCommand}
 use Rattle.bb_words.specs.declared.given.Given.{Given}
 use Rattle.bb_words.specs.declared.option.Valued.{Valued}
-use Rattle.bb_words.specs.declared.option.Valued.TheVariants.{Input, Name, Get as GetOption, Set as SetOption, Settings, Script, Key, Target, Label, Image, Digest, Cause}
+use Rattle.bb_words.specs.declared.option.Valued.TheVariants.{Input, Name, Get as GetOption, Set as SetOption, Settings, Script, Key, OldKey, Target, Label, Image, Digest, Cause}
 use Rattle.bb_words.specs.declared.row.Row.{Row}
 use Rattle.bb_words.specs.declared.row.Row.TheVariants as rows
-use Rattle.bb_words.specs.Grammar.{IsAction, IsRaw, IsDrill, IsSpelt, Spells, OptionForm, Own, Long, Joined, Item, Takes, ShortDump, LongDump, ShellDump, own_form, long_form, item_words, has_long, has_form, is_value, has_item, file_in, state_name_in, settings_in, script_file_in, key_file_in, target_in, label_in, image_file_in, digest_in, cause_in, action_in}
+use Rattle.bb_words.specs.Grammar.{IsAction, IsRaw, IsDrill, IsSpelt, Spells, OptionForm, Own, Long, Joined, Item, Takes, ShortDump, LongDump, ShellDump, own_form, long_form, item_words, has_long, has_form, is_value, has_item, file_in, state_name_in, settings_in, script_file_in, key_file_in, old_file_in, target_in, label_in, image_file_in, digest_in, cause_in, action_in}
 use Rattle.bb_words.specs.Options.{cause_word_of, digest_spelt, dump_of, long_of, valued_of, joined_value_in, has_sign, set_in, with_option, with_action, none_given}
-use Rattle.bb_words.specs.Table.{command_name_of, row_of, has_option, has_dumps, may_come, boot_in, command_of, described_in, install_in, verify_in}
+use Rattle.bb_words.specs.Table.{command_name_of, row_of, has_option, has_dumps, may_come, boot_in, command_of, described_in, install_in, rekey_in, verify_in}
 use Rattle.bb_words.specs.Words.{WordStage, Magic, Length, Mode, Area, DirOption, DirValue, DrillNumber, DrillCount, Options, Whole, raw_of, drill_of, number_up_to, area_spelt, sessions_spelt, after_dump, before_value, after_value, after_joined, after_option, next, words_from, words_of}
 
 -- ---- what is spelt is accepted
@@ -53,6 +54,7 @@ record Gives (given : Given) (items : List Item) (all : Given) : Type 0 where
   settings : option_to_list given.settings ++ filter_map settings_in items ≡ option_to_list all.settings
   scripts : option_to_list given.script ++ filter_map script_file_in items ≡ option_to_list all.script
   keys : option_to_list given.key ++ filter_map key_file_in items ≡ option_to_list all.key
+  olds : option_to_list given.old_key ++ filter_map old_file_in items ≡ option_to_list all.old_key
   targets : option_to_list given.target ++ filter_map target_in items ≡ option_to_list all.target
   labels : option_to_list given.label ++ filter_map label_in items ≡ option_to_list all.label
   images : option_to_list given.image ++ filter_map image_file_in items ≡ option_to_list all.image
@@ -67,6 +69,7 @@ gives_none given all g =
     let settings = same_item given.settings all.settings g.settings in
     let script = same_item given.script all.script g.scripts in
     let key = same_item given.key all.key g.keys in
+    let old = same_item given.old_key all.old_key g.olds in
     let target = same_item given.target all.target g.targets in
     let label = same_item given.label all.label g.labels in
     let image = same_item given.image all.image g.images in
@@ -83,31 +86,35 @@ gives_none given all g =
     (λ key. record given { file = all.file; name = all.name; settings = all.settings; script = all.script; key = key })
     key
     ∙ ap
-    (λ target. record given { file = all.file; name = all.name; settings = all.settings; script = all.script; key = all.key; target = target })
+    (λ old. record given { file = all.file; name = all.name; settings = all.settings; script = all.script; key = all.key; old_key = old })
+    old
+    ∙ ap
+    (λ target. record given { file = all.file; name = all.name; settings = all.settings; script = all.script; key = all.key; old_key = all.old_key; target = target })
     target
     ∙ ap
-    (λ label. record given { file = all.file; name = all.name; settings = all.settings; script = all.script; key = all.key; target = all.target; label = label })
+    (λ label. record given { file = all.file; name = all.name; settings = all.settings; script = all.script; key = all.key; old_key = all.old_key; target = all.target; label = label })
     label
     ∙ ap
-    (λ image. record given { file = all.file; name = all.name; settings = all.settings; script = all.script; key = all.key; target = all.target; label = all.label; image = image })
+    (λ image. record given { file = all.file; name = all.name; settings = all.settings; script = all.script; key = all.key; old_key = all.old_key; target = all.target; label = all.label; image = image })
     image
     ∙ ap
-    (λ digest. record given { file = all.file; name = all.name; settings = all.settings; script = all.script; key = all.key; target = all.target; label = all.label; image = all.image; digest = digest })
+    (λ digest. record given { file = all.file; name = all.name; settings = all.settings; script = all.script; key = all.key; old_key = all.old_key; target = all.target; label = all.label; image = all.image; digest = digest })
     digest
     ∙ ap
-    (λ cause. record given { file = all.file; name = all.name; settings = all.settings; script = all.script; key = all.key; target = all.target; label = all.label; image = all.image; digest = all.digest; cause = cause })
+    (λ cause. record given { file = all.file; name = all.name; settings = all.settings; script = all.script; key = all.key; old_key = all.old_key; target = all.target; label = all.label; image = all.image; digest = all.digest; cause = cause })
     cause
     ∙ ap (λ actions. record all { actions = actions }) actions
 
 -- an action is put after those before
-action_behind : (given all : Given) (items : List Item) (item : Item) (action : Action) → file_in item ≡ None → state_name_in item ≡ None → settings_in item ≡ None → script_file_in item ≡ None → key_file_in item ≡ None → target_in item ≡ None → label_in item ≡ None → image_file_in item ≡ None → digest_in item ≡ None → cause_in item ≡ None → action_in item ≡ Some action →
+action_behind : (given all : Given) (items : List Item) (item : Item) (action : Action) → file_in item ≡ None → state_name_in item ≡ None → settings_in item ≡ None → script_file_in item ≡ None → key_file_in item ≡ None → old_file_in item ≡ None → target_in item ≡ None → label_in item ≡ None → image_file_in item ≡ None → digest_in item ≡ None → cause_in item ≡ None → action_in item ≡ Some action →
     Gives given (item ∷ items) all → Gives (with_action action given) items all
-action_behind given all items item action no_file no_name no_settings no_script no_key no_target no_label no_image no_digest no_cause does g = record {
+action_behind given all items item action no_file no_name no_settings no_script no_key no_old no_target no_label no_image no_digest no_cause does g = record {
   files = ap (λ o. option_to_list given.file ++ cons_option o (filter_map file_in items)) (sym no_file) ∙ g.files;
   names = ap (λ o. option_to_list given.name ++ cons_option o (filter_map state_name_in items)) (sym no_name) ∙ g.names;
   settings = ap (λ o. option_to_list given.settings ++ cons_option o (filter_map settings_in items)) (sym no_settings) ∙ g.settings;
   scripts = ap (λ o. option_to_list given.script ++ cons_option o (filter_map script_file_in items)) (sym no_script) ∙ g.scripts;
   keys = ap (λ o. option_to_list given.key ++ cons_option o (filter_map key_file_in items)) (sym no_key) ∙ g.keys;
+  olds = ap (λ o. option_to_list given.old_key ++ cons_option o (filter_map old_file_in items)) (sym no_old) ∙ g.olds;
   targets = ap (λ o. option_to_list given.target ++ cons_option o (filter_map target_in items)) (sym no_target) ∙ g.targets;
   labels = ap (λ o. option_to_list given.label ++ cons_option o (filter_map label_in items)) (sym no_label) ∙ g.labels;
   images = ap (λ o. option_to_list given.image ++ cons_option o (filter_map image_file_in items)) (sym no_image) ∙ g.images;
@@ -120,14 +127,15 @@ action_behind given all items item action no_file no_name no_settings no_script 
 }
 
 -- and the other way round
-action_before : (given all : Given) (items : List Item) (item : Item) (action : Action) → file_in item ≡ None → state_name_in item ≡ None → settings_in item ≡ None → script_file_in item ≡ None → key_file_in item ≡ None → target_in item ≡ None → label_in item ≡ None → image_file_in item ≡ None → digest_in item ≡ None → cause_in item ≡ None → action_in item ≡ Some action →
+action_before : (given all : Given) (items : List Item) (item : Item) (action : Action) → file_in item ≡ None → state_name_in item ≡ None → settings_in item ≡ None → script_file_in item ≡ None → key_file_in item ≡ None → old_file_in item ≡ None → target_in item ≡ None → label_in item ≡ None → image_file_in item ≡ None → digest_in item ≡ None → cause_in item ≡ None → action_in item ≡ Some action →
     Gives (with_action action given) items all → Gives given (item ∷ items) all
-action_before given all items item action no_file no_name no_settings no_script no_key no_target no_label no_image no_digest no_cause does g = record {
+action_before given all items item action no_file no_name no_settings no_script no_key no_old no_target no_label no_image no_digest no_cause does g = record {
   files = ap (λ o. option_to_list given.file ++ cons_option o (filter_map file_in items)) no_file ∙ g.files;
   names = ap (λ o. option_to_list given.name ++ cons_option o (filter_map state_name_in items)) no_name ∙ g.names;
   settings = ap (λ o. option_to_list given.settings ++ cons_option o (filter_map settings_in items)) no_settings ∙ g.settings;
   scripts = ap (λ o. option_to_list given.script ++ cons_option o (filter_map script_file_in items)) no_script ∙ g.scripts;
   keys = ap (λ o. option_to_list given.key ++ cons_option o (filter_map key_file_in items)) no_key ∙ g.keys;
+  olds = ap (λ o. option_to_list given.old_key ++ cons_option o (filter_map old_file_in items)) no_old ∙ g.olds;
   targets = ap (λ o. option_to_list given.target ++ cons_option o (filter_map target_in items)) no_target ∙ g.targets;
   labels = ap (λ o. option_to_list given.label ++ cons_option o (filter_map label_in items)) no_label ∙ g.labels;
   images = ap (λ o. option_to_list given.image ++ cons_option o (filter_map image_file_in items)) no_image ∙ g.images;
@@ -163,67 +171,74 @@ some_in (Some a) h = (a, refl)
 may_still : (row : Row) (valued : Valued) → has_option row valued ≡ true → (has_option row valued && true) ≡ true
 may_still row valued h = ap (λ b. b && true) h
 
-takes_leaves : (row : Row) (form : OptionForm) (valued : Valued) (value : List ℕ) (items : List Item) (file name settings script key target label image digest : Option (List ℕ)) (cause : Option CauseWord) (actions : List Action) (all : Given) →
-    has_option row valued ≡ true → is_value valued value ≡ true → Gives (record { file = file; name = name; settings = settings; script = script; key = key; target = target; label = label; image = image; digest = digest; cause = cause; actions = actions }) (Takes form valued value ∷ items) all →
-    Leaves row valued value items (record { file = file; name = name; settings = settings; script = script; key = key; target = target; label = label; image = image; digest = digest; cause = cause; actions = actions }) all
-takes_leaves row form Input value items None name settings script key target label image digest cause actions all had is g = record {
-  behind = record { file = Some value; name = name; settings = settings; script = script; key = key; target = target; label = label; image = image; digest = digest; cause = cause; actions = actions };
+takes_leaves : (row : Row) (form : OptionForm) (valued : Valued) (value : List ℕ) (items : List Item) (file name settings script key old target label image digest : Option (List ℕ)) (cause : Option CauseWord) (actions : List Action) (all : Given) →
+    has_option row valued ≡ true → is_value valued value ≡ true → Gives (record { file = file; name = name; settings = settings; script = script; key = key; old_key = old; target = target; label = label; image = image; digest = digest; cause = cause; actions = actions }) (Takes form valued value ∷ items) all →
+    Leaves row valued value items (record { file = file; name = name; settings = settings; script = script; key = key; old_key = old; target = target; label = label; image = image; digest = digest; cause = cause; actions = actions }) all
+takes_leaves row form Input value items None name settings script key old target label image digest cause actions all had is g = record {
+  behind = record { file = Some value; name = name; settings = settings; script = script; key = key; old_key = old; target = target; label = label; image = image; digest = digest; cause = cause; actions = actions };
   may = may_still row Input had;
   with = refl;
-  gives = record { files = g.files; names = g.names; settings = g.settings; scripts = g.scripts; keys = g.keys; targets = g.targets; labels = g.labels; images = g.images; digests = g.digests; causes = g.causes; actions = g.actions };
+  gives = record { files = g.files; names = g.names; settings = g.settings; scripts = g.scripts; keys = g.keys; olds = g.olds; targets = g.targets; labels = g.labels; images = g.images; digests = g.digests; causes = g.causes; actions = g.actions };
 }
-takes_leaves row form Input value items (Some x) name settings script key target label image digest cause actions all had is g = absurd (one_item x value _ all.file g.files)
-takes_leaves row form Name value items file None settings script key target label image digest cause actions all had is g = record {
-  behind = record { file = file; name = Some value; settings = settings; script = script; key = key; target = target; label = label; image = image; digest = digest; cause = cause; actions = actions };
+takes_leaves row form Input value items (Some x) name settings script key old target label image digest cause actions all had is g = absurd (one_item x value _ all.file g.files)
+takes_leaves row form Name value items file None settings script key old target label image digest cause actions all had is g = record {
+  behind = record { file = file; name = Some value; settings = settings; script = script; key = key; old_key = old; target = target; label = label; image = image; digest = digest; cause = cause; actions = actions };
   may = may_still row Name had;
   with = refl;
-  gives = record { files = g.files; names = g.names; settings = g.settings; scripts = g.scripts; keys = g.keys; targets = g.targets; labels = g.labels; images = g.images; digests = g.digests; causes = g.causes; actions = g.actions };
+  gives = record { files = g.files; names = g.names; settings = g.settings; scripts = g.scripts; keys = g.keys; olds = g.olds; targets = g.targets; labels = g.labels; images = g.images; digests = g.digests; causes = g.causes; actions = g.actions };
 }
-takes_leaves row form Name value items file (Some x) settings script key target label image digest cause actions all had is g = absurd (one_item x value _ all.name g.names)
-takes_leaves row form Settings value items file name None script key target label image digest cause actions all had is g = record {
-  behind = record { file = file; name = name; settings = Some value; script = script; key = key; target = target; label = label; image = image; digest = digest; cause = cause; actions = actions };
+takes_leaves row form Name value items file (Some x) settings script key old target label image digest cause actions all had is g = absurd (one_item x value _ all.name g.names)
+takes_leaves row form Settings value items file name None script key old target label image digest cause actions all had is g = record {
+  behind = record { file = file; name = name; settings = Some value; script = script; key = key; old_key = old; target = target; label = label; image = image; digest = digest; cause = cause; actions = actions };
   may = may_still row Settings had;
   with = refl;
-  gives = record { files = g.files; names = g.names; settings = g.settings; scripts = g.scripts; keys = g.keys; targets = g.targets; labels = g.labels; images = g.images; digests = g.digests; causes = g.causes; actions = g.actions };
+  gives = record { files = g.files; names = g.names; settings = g.settings; scripts = g.scripts; keys = g.keys; olds = g.olds; targets = g.targets; labels = g.labels; images = g.images; digests = g.digests; causes = g.causes; actions = g.actions };
 }
-takes_leaves row form Settings value items file name (Some x) script key target label image digest cause actions all had is g = absurd (one_item x value _ all.settings g.settings)
-takes_leaves row form Script value items file name settings None key target label image digest cause actions all had is g = record {
-  behind = record { file = file; name = name; settings = settings; script = Some value; key = key; target = target; label = label; image = image; digest = digest; cause = cause; actions = actions };
+takes_leaves row form Settings value items file name (Some x) script key old target label image digest cause actions all had is g = absurd (one_item x value _ all.settings g.settings)
+takes_leaves row form Script value items file name settings None key old target label image digest cause actions all had is g = record {
+  behind = record { file = file; name = name; settings = settings; script = Some value; key = key; old_key = old; target = target; label = label; image = image; digest = digest; cause = cause; actions = actions };
   may = may_still row Script had;
   with = refl;
-  gives = record { files = g.files; names = g.names; settings = g.settings; scripts = g.scripts; keys = g.keys; targets = g.targets; labels = g.labels; images = g.images; digests = g.digests; causes = g.causes; actions = g.actions };
+  gives = record { files = g.files; names = g.names; settings = g.settings; scripts = g.scripts; keys = g.keys; olds = g.olds; targets = g.targets; labels = g.labels; images = g.images; digests = g.digests; causes = g.causes; actions = g.actions };
 }
-takes_leaves row form Script value items file name settings (Some x) key target label image digest cause actions all had is g = absurd (one_item x value _ all.script g.scripts)
-takes_leaves row form Key value items file name settings script None target label image digest cause actions all had is g = record {
-  behind = record { file = file; name = name; settings = settings; script = script; key = Some value; target = target; label = label; image = image; digest = digest; cause = cause; actions = actions };
+takes_leaves row form Script value items file name settings (Some x) key old target label image digest cause actions all had is g = absurd (one_item x value _ all.script g.scripts)
+takes_leaves row form Key value items file name settings script None old target label image digest cause actions all had is g = record {
+  behind = record { file = file; name = name; settings = settings; script = script; key = Some value; old_key = old; target = target; label = label; image = image; digest = digest; cause = cause; actions = actions };
   may = may_still row Key had;
   with = refl;
-  gives = record { files = g.files; names = g.names; settings = g.settings; scripts = g.scripts; keys = g.keys; targets = g.targets; labels = g.labels; images = g.images; digests = g.digests; causes = g.causes; actions = g.actions };
+  gives = record { files = g.files; names = g.names; settings = g.settings; scripts = g.scripts; keys = g.keys; olds = g.olds; targets = g.targets; labels = g.labels; images = g.images; digests = g.digests; causes = g.causes; actions = g.actions };
 }
-takes_leaves row form Key value items file name settings script (Some x) target label image digest cause actions all had is g = absurd (one_item x value _ all.key g.keys)
-takes_leaves row form Target value items file name settings script key None label image digest cause actions all had is g = record {
-  behind = record { file = file; name = name; settings = settings; script = script; key = key; target = Some value; label = label; image = image; digest = digest; cause = cause; actions = actions };
+takes_leaves row form Key value items file name settings script (Some x) old target label image digest cause actions all had is g = absurd (one_item x value _ all.key g.keys)
+takes_leaves row form OldKey value items file name settings script key None target label image digest cause actions all had is g = record {
+  behind = record { file = file; name = name; settings = settings; script = script; key = key; old_key = Some value; target = target; label = label; image = image; digest = digest; cause = cause; actions = actions };
+  may = may_still row OldKey had;
+  with = refl;
+  gives = record { files = g.files; names = g.names; settings = g.settings; scripts = g.scripts; keys = g.keys; olds = g.olds; targets = g.targets; labels = g.labels; images = g.images; digests = g.digests; causes = g.causes; actions = g.actions };
+}
+takes_leaves row form OldKey value items file name settings script key (Some x) target label image digest cause actions all had is g = absurd (one_item x value _ all.old_key g.olds)
+takes_leaves row form Target value items file name settings script key old None label image digest cause actions all had is g = record {
+  behind = record { file = file; name = name; settings = settings; script = script; key = key; old_key = old; target = Some value; label = label; image = image; digest = digest; cause = cause; actions = actions };
   may = may_still row Target had;
   with = refl;
-  gives = record { files = g.files; names = g.names; settings = g.settings; scripts = g.scripts; keys = g.keys; targets = g.targets; labels = g.labels; images = g.images; digests = g.digests; causes = g.causes; actions = g.actions };
+  gives = record { files = g.files; names = g.names; settings = g.settings; scripts = g.scripts; keys = g.keys; olds = g.olds; targets = g.targets; labels = g.labels; images = g.images; digests = g.digests; causes = g.causes; actions = g.actions };
 }
-takes_leaves row form Target value items file name settings script key (Some x) label image digest cause actions all had is g = absurd (one_item x value _ all.target g.targets)
-takes_leaves row form Label value items file name settings script key target None image digest cause actions all had is g = record {
-  behind = record { file = file; name = name; settings = settings; script = script; key = key; target = target; label = Some value; image = image; digest = digest; cause = cause; actions = actions };
+takes_leaves row form Target value items file name settings script key old (Some x) label image digest cause actions all had is g = absurd (one_item x value _ all.target g.targets)
+takes_leaves row form Label value items file name settings script key old target None image digest cause actions all had is g = record {
+  behind = record { file = file; name = name; settings = settings; script = script; key = key; old_key = old; target = target; label = Some value; image = image; digest = digest; cause = cause; actions = actions };
   may = may_still row Label had;
   with = refl;
-  gives = record { files = g.files; names = g.names; settings = g.settings; scripts = g.scripts; keys = g.keys; targets = g.targets; labels = g.labels; images = g.images; digests = g.digests; causes = g.causes; actions = g.actions };
+  gives = record { files = g.files; names = g.names; settings = g.settings; scripts = g.scripts; keys = g.keys; olds = g.olds; targets = g.targets; labels = g.labels; images = g.images; digests = g.digests; causes = g.causes; actions = g.actions };
 }
-takes_leaves row form Label value items file name settings script key target (Some x) image digest cause actions all had is g = absurd (one_item x value _ all.label g.labels)
-takes_leaves row form Image value items file name settings script key target label None digest cause actions all had is g = record {
-  behind = record { file = file; name = name; settings = settings; script = script; key = key; target = target; label = label; image = Some value; digest = digest; cause = cause; actions = actions };
+takes_leaves row form Label value items file name settings script key old target (Some x) image digest cause actions all had is g = absurd (one_item x value _ all.label g.labels)
+takes_leaves row form Image value items file name settings script key old target label None digest cause actions all had is g = record {
+  behind = record { file = file; name = name; settings = settings; script = script; key = key; old_key = old; target = target; label = label; image = Some value; digest = digest; cause = cause; actions = actions };
   may = may_still row Image had;
   with = refl;
-  gives = record { files = g.files; names = g.names; settings = g.settings; scripts = g.scripts; keys = g.keys; targets = g.targets; labels = g.labels; images = g.images; digests = g.digests; causes = g.causes; actions = g.actions };
+  gives = record { files = g.files; names = g.names; settings = g.settings; scripts = g.scripts; keys = g.keys; olds = g.olds; targets = g.targets; labels = g.labels; images = g.images; digests = g.digests; causes = g.causes; actions = g.actions };
 }
-takes_leaves row form Image value items file name settings script key target label (Some x) digest cause actions all had is g = absurd (one_item x value _ all.image g.images)
-takes_leaves row form Digest value items file name settings script key target label image None cause actions all had is g =
-    let given : Given = record { file = file; name = name; settings = settings; script = script; key = key; target = target; label = label; image = image; digest = None; cause = cause; actions = actions } in
+takes_leaves row form Image value items file name settings script key old target label (Some x) digest cause actions all had is g = absurd (one_item x value _ all.image g.images)
+takes_leaves row form Digest value items file name settings script key old target label image None cause actions all had is g =
+    let given : Given = record { file = file; name = name; settings = settings; script = script; key = key; old_key = old; target = target; label = label; image = image; digest = None; cause = cause; actions = actions } in
     let spelt = some_in (digest_spelt value) is in
     record {
       behind = record given { digest = Some spelt.0 };
@@ -235,6 +250,7 @@ takes_leaves row form Digest value items file name settings script key target la
         settings = g.settings;
         scripts = g.scripts;
         keys = g.keys;
+        olds = g.olds;
         targets = g.targets;
         labels = g.labels;
         images = g.images;
@@ -243,11 +259,11 @@ takes_leaves row form Digest value items file name settings script key target la
         actions = g.actions;
       };
     }
-takes_leaves row form Digest value items file name settings script key target label image (Some x) cause actions all had is g =
+takes_leaves row form Digest value items file name settings script key old target label image (Some x) cause actions all had is g =
     let spelt = some_in (digest_spelt value) is in
     absurd (one_item x spelt.0 _ all.digest (ap (λ o. x ∷ cons_option o (filter_map digest_in items)) (sym spelt.1) ∙ g.digests))
-takes_leaves row form Cause value items file name settings script key target label image digest None actions all had is g =
-    let given : Given = record { file = file; name = name; settings = settings; script = script; key = key; target = target; label = label; image = image; digest = digest; cause = None; actions = actions } in
+takes_leaves row form Cause value items file name settings script key old target label image digest None actions all had is g =
+    let given : Given = record { file = file; name = name; settings = settings; script = script; key = key; old_key = old; target = target; label = label; image = image; digest = digest; cause = None; actions = actions } in
     let cause = some_in (cause_word_of value) is in
     record {
       behind = record given { cause = Some cause.0 };
@@ -259,6 +275,7 @@ takes_leaves row form Cause value items file name settings script key target lab
         settings = g.settings;
         scripts = g.scripts;
         keys = g.keys;
+        olds = g.olds;
         targets = g.targets;
         labels = g.labels;
         images = g.images;
@@ -267,25 +284,25 @@ takes_leaves row form Cause value items file name settings script key target lab
         actions = g.actions;
       };
     }
-takes_leaves row form Cause value items file name settings script key target label image digest (Some x) actions all had is g =
+takes_leaves row form Cause value items file name settings script key old target label image digest (Some x) actions all had is g =
     let cause = some_in (cause_word_of value) is in
     absurd (one_item x cause.0 _ all.cause (ap (λ o. x ∷ cons_option o (filter_map cause_in items)) (sym cause.1) ∙ g.causes))
-takes_leaves row form GetOption value items file name settings script key target label image digest cause actions all had is g =
-    let given : Given = record { file = file; name = name; settings = settings; script = script; key = key; target = target; label = label; image = image; digest = digest; cause = cause; actions = actions } in
+takes_leaves row form GetOption value items file name settings script key old target label image digest cause actions all had is g =
+    let given : Given = record { file = file; name = name; settings = settings; script = script; key = key; old_key = old; target = target; label = label; image = image; digest = digest; cause = cause; actions = actions } in
     record {
       behind = with_action (Get value) given;
       may = may_still row GetOption had;
       with = refl;
-      gives = action_behind given all items (Takes form GetOption value) (Get value) refl refl refl refl refl refl refl refl refl refl refl g;
+      gives = action_behind given all items (Takes form GetOption value) (Get value) refl refl refl refl refl refl refl refl refl refl refl refl g;
     }
-takes_leaves row form SetOption value items file name settings script key target label image digest cause actions all had is g =
-    let given : Given = record { file = file; name = name; settings = settings; script = script; key = key; target = target; label = label; image = image; digest = digest; cause = cause; actions = actions } in
+takes_leaves row form SetOption value items file name settings script key old target label image digest cause actions all had is g =
+    let given : Given = record { file = file; name = name; settings = settings; script = script; key = key; old_key = old; target = target; label = label; image = image; digest = digest; cause = cause; actions = actions } in
     let set = Set (before_first is_sign value) (after_first is_sign value) in
     record {
       behind = with_action set given;
       may = may_still row SetOption had;
       with = ap (option_map (λ action. with_action action given)) (set_made value is);
-      gives = action_behind given all items (Takes form SetOption value) set refl refl refl refl refl refl refl refl refl refl (set_made value is) g;
+      gives = action_behind given all items (Takes form SetOption value) set refl refl refl refl refl refl refl refl refl refl refl (set_made value is) g;
     }
 
 -- a word that may come
@@ -328,6 +345,7 @@ own_opens start row SetOption given rest h = open_step start _ (Options row (Som
 own_opens start row Settings given rest h = open_step start _ (Options row (Some Settings) given) None rest h
 own_opens start row Script given rest h = open_step start _ (Options row (Some Script) given) None rest h
 own_opens start row Key given rest h = open_step start _ (Options row (Some Key) given) None rest h
+own_opens start row OldKey given rest h = open_step start _ (Options row (Some OldKey) given) None rest h
 own_opens start row Target given rest h = open_step start _ (Options row (Some Target) given) None rest h
 own_opens start row Label given rest h = open_step start _ (Options row (Some Label) given) None rest h
 own_opens start row Image given rest h = open_step start _ (Options row (Some Image) given) None rest h
@@ -344,6 +362,7 @@ long_opens start row SetOption given rest long h = open_step start _ (Options ro
 long_opens start row Settings given rest long h = absurd (cc)
 long_opens start row Script given rest long h = absurd (cc)
 long_opens start row Key given rest long h = absurd (cc)
+long_opens start row OldKey given rest long h = absurd (cc)
 long_opens start row Target given rest long h = absurd (cc)
 long_opens start row Label given rest long h = absurd (cc)
 long_opens start row Image given rest long h = absurd (cc)
@@ -365,6 +384,7 @@ takes_words start row Joined SetOption value given behind rest form h with = clo
 takes_words start row Joined Settings value given behind rest form h with = absurd (cc)
 takes_words start row Joined Script value given behind rest form h with = absurd (cc)
 takes_words start row Joined Key value given behind rest form h with = absurd (cc)
+takes_words start row Joined OldKey value given behind rest form h with = absurd (cc)
 takes_words start row Joined Target value given behind rest form h with = absurd (cc)
 takes_words start row Joined Label value given behind rest form h with = absurd (cc)
 takes_words start row Joined Image value given behind rest form h with = absurd (cc)
@@ -387,27 +407,27 @@ takes_made row form valued value items ih start given all command had g made =
     let here = both _ _ had in
     let item = both _ _ here.0 in
     let spelt = both _ _ item.1 in
-    let l = takes_leaves row form valued value items given.file given.name given.settings given.script given.key given.target given.label given.image given.digest given.cause given.actions all item.0 spelt.1 g in
+    let l = takes_leaves row form valued value items given.file given.name given.settings given.script given.key given.old_key given.target given.label given.image given.digest given.cause given.actions all item.0 spelt.1 g in
     takes_words start row form valued value given l.behind (flat_map item_words items) spelt.0 l.may l.with
     ∙ ih (behind_form start form) l.behind all command here.1 l.gives made
 
-dump_made : (row : Row) (item : Item) (action : Action) (items : List Item) → file_in item ≡ None → state_name_in item ≡ None → settings_in item ≡ None → script_file_in item ≡ None → key_file_in item ≡ None → target_in item ≡ None → label_in item ≡ None → image_file_in item ≡ None → digest_in item ≡ None → cause_in item ≡ None → action_in item ≡ Some action →
+dump_made : (row : Row) (item : Item) (action : Action) (items : List Item) → file_in item ≡ None → state_name_in item ≡ None → settings_in item ≡ None → script_file_in item ≡ None → key_file_in item ≡ None → old_file_in item ≡ None → target_in item ≡ None → label_in item ≡ None → image_file_in item ≡ None → digest_in item ≡ None → cause_in item ≡ None → action_in item ≡ Some action →
     has_item row item ≡ has_dumps row →
     ((start : ℕ) (given : Given) (rest : List (List ℕ)) → has_dumps row ≡ true →
     words_from start (Options row None given) (item_words item ++ rest) ≡ words_from (start + 1) (Options row None (with_action action given)) rest) →
     Makes row items → Makes row (item ∷ items)
 unfolding Makes
-dump_made row item action items no_file no_name no_settings no_script no_key no_target no_label no_image no_digest no_cause does is step ih start given all command had g made =
+dump_made row item action items no_file no_name no_settings no_script no_key no_old no_target no_label no_image no_digest no_cause does is step ih start given all command had g made =
     let here = both _ _ had in
     step start given (flat_map item_words items) (sym is ∙ here.0)
-    ∙ ih (start + 1) (with_action action given) all command here.1 (action_behind given all items item action no_file no_name no_settings no_script no_key no_target no_label no_image no_digest no_cause does g) made
+    ∙ ih (start + 1) (with_action action given) all command here.1 (action_behind given all items item action no_file no_name no_settings no_script no_key no_old no_target no_label no_image no_digest no_cause does g) made
 
 item_made : (row : Row) (item : Item) (items : List Item) → Makes row items → Makes row (item ∷ items)
 unfolding words_from
 item_made row (Takes form valued value) items ih = takes_made row form valued value items ih
-item_made row ShortDump items ih = dump_made row ShortDump Dump items refl refl refl refl refl refl refl refl refl refl refl refl (λ start given rest h. open_step start _ (Options row None (with_action Dump given)) None rest h) ih
-item_made row LongDump items ih = dump_made row LongDump Dump items refl refl refl refl refl refl refl refl refl refl refl refl (λ start given rest h. open_step start _ (Options row None (with_action Dump given)) None rest h) ih
-item_made row ShellDump items ih = dump_made row ShellDump DumpShell items refl refl refl refl refl refl refl refl refl refl refl refl (λ start given rest h. open_step start _ (Options row None (with_action DumpShell given)) None rest h) ih
+item_made row ShortDump items ih = dump_made row ShortDump Dump items refl refl refl refl refl refl refl refl refl refl refl refl refl (λ start given rest h. open_step start _ (Options row None (with_action Dump given)) None rest h) ih
+item_made row LongDump items ih = dump_made row LongDump Dump items refl refl refl refl refl refl refl refl refl refl refl refl refl (λ start given rest h. open_step start _ (Options row None (with_action Dump given)) None rest h) ih
+item_made row ShellDump items ih = dump_made row ShellDump DumpShell items refl refl refl refl refl refl refl refl refl refl refl refl refl (λ start given rest h. open_step start _ (Options row None (with_action DumpShell given)) None rest h) ih
 
 items_made : (row : Row) (items : List Item) → Makes row items
 items_made row [] = none_made row
@@ -422,13 +442,14 @@ row_begins rows.Shell rest = refl
 row_begins rows.Install rest = refl
 row_begins rows.Verify rest = refl
 row_begins rows.History rest = refl
+row_begins rows.Rekey rest = refl
 
 options_accepted : (row : Row) (words : List (List ℕ)) (command : Command) → IsSpelt row words command → words_of words ≡ Ok command
 unfolding Makes
 options_accepted row words command is =
     ap words_of is.spelt
     ∙ row_begins row (flat_map item_words is.items)
-    ∙ items_made row is.items 1 none_given is.given command is.has_all (record { files = is.file_is; names = is.name_is; settings = is.settings_are; scripts = is.script_is; keys = is.key_is; targets = is.target_is; labels = is.label_is; images = is.image_is; digests = is.digest_is; causes = is.cause_is; actions = is.actions_are }) is.made
+    ∙ items_made row is.items 1 none_given is.given command is.has_all (record { files = is.file_is; names = is.name_is; settings = is.settings_are; scripts = is.script_is; keys = is.key_is; olds = is.old_is; targets = is.target_is; labels = is.label_is; images = is.image_is; digests = is.digest_is; causes = is.cause_is; actions = is.actions_are }) is.made
 
 action_accepted : (magic len : ℕ) (action : RawAction) (words : List (List ℕ)) → IsAction len action words → words_from 3 (Mode magic len) words ≡ Ok (raw_of magic len action)
 unfolding words_from
@@ -465,6 +486,7 @@ accepted words (commands.Shell shell) is = options_accepted rows.Shell words _ i
 accepted words (commands.Install install) is = options_accepted rows.Install words _ is
 accepted words (commands.Verify verify) is = options_accepted rows.Verify words _ is
 accepted words (commands.History history) is = options_accepted rows.History words _ is
+accepted words (commands.Rekey rekey) is = options_accepted rows.Rekey words _ is
 accepted words (Menu menu) is = ap words_of is ∙ menu_accepted menu.dir
 accepted words (Drill numbers) is = ap words_of is.1 ∙ drill_accepted is.0 numbers is.2
 
@@ -630,28 +652,29 @@ long_words : (w : List ℕ) (v : Valued) → long_of w ≡ Some v → IsLong w v
 long_words w v h =
     long_cases w v (bytes_eq w (codes "--input")) (bytes_eq w (codes "--name")) (bytes_eq w (codes "--get")) (bytes_eq w (codes "--set")) refl refl refl refl h
 
-valued_cases : (w : List ℕ) (v : Valued) (a b c d e f g t p m q k : Bool) → bytes_eq w (codes "-i") ≡ a → bytes_eq w (codes "-n") ≡ b → bytes_eq w (codes "-g") ≡ c → bytes_eq w (codes "-s") ≡ d →
+valued_cases : (w : List ℕ) (v : Valued) (a b c d e f g t p m q k o : Bool) → bytes_eq w (codes "-i") ≡ a → bytes_eq w (codes "-n") ≡ b → bytes_eq w (codes "-g") ≡ c → bytes_eq w (codes "-s") ≡ d →
     bytes_eq w (codes "-c") ≡ e → bytes_eq w (codes "-k") ≡ f → bytes_eq w (codes "-x") ≡ g →
-    bytes_eq w (codes "-t") ≡ t → bytes_eq w (codes "-p") ≡ p → bytes_eq w (codes "-f") ≡ m → bytes_eq w (codes "--sha256") ≡ q → bytes_eq w (codes "--cause") ≡ k →
-    (if a then Some Input else if b then Some Name else if c then Some GetOption else if d then Some SetOption else if e then Some Settings else if f then Some Key else if g then Some Script else if t then Some Target else if p then Some Label else if m then Some Image else if q then Some Digest else if k then Some Cause else long_of w) ≡ Some v →
+    bytes_eq w (codes "-t") ≡ t → bytes_eq w (codes "-p") ≡ p → bytes_eq w (codes "-f") ≡ m → bytes_eq w (codes "--sha256") ≡ q → bytes_eq w (codes "--cause") ≡ k → bytes_eq w (codes "--old-key") ≡ o →
+    (if a then Some Input else if b then Some Name else if c then Some GetOption else if d then Some SetOption else if e then Some Settings else if f then Some Key else if g then Some Script else if t then Some Target else if p then Some Label else if m then Some Image else if q then Some Digest else if k then Some Cause else if o then Some OldKey else long_of w) ≡ Some v →
     (w ≡ own_form v) ⊎ IsLong w v
-valued_cases w v true b c d e f g t p m q k ea eb ec ed ee ef eg et ep em eq ek h = inl (same_bytes w (codes "-i") ea ∙ ap own_form (some_same Input v h))
-valued_cases w v false true c d e f g t p m q k ea eb ec ed ee ef eg et ep em eq ek h = inl (same_bytes w (codes "-n") eb ∙ ap own_form (some_same Name v h))
-valued_cases w v false false true d e f g t p m q k ea eb ec ed ee ef eg et ep em eq ek h = inl (same_bytes w (codes "-g") ec ∙ ap own_form (some_same GetOption v h))
-valued_cases w v false false false true e f g t p m q k ea eb ec ed ee ef eg et ep em eq ek h = inl (same_bytes w (codes "-s") ed ∙ ap own_form (some_same SetOption v h))
-valued_cases w v false false false false true f g t p m q k ea eb ec ed ee ef eg et ep em eq ek h = inl (same_bytes w (codes "-c") ee ∙ ap own_form (some_same Settings v h))
-valued_cases w v false false false false false true g t p m q k ea eb ec ed ee ef eg et ep em eq ek h = inl (same_bytes w (codes "-k") ef ∙ ap own_form (some_same Key v h))
-valued_cases w v false false false false false false true t p m q k ea eb ec ed ee ef eg et ep em eq ek h = inl (same_bytes w (codes "-x") eg ∙ ap own_form (some_same Script v h))
-valued_cases w v false false false false false false false true p m q k ea eb ec ed ee ef eg et ep em eq ek h = inl (same_bytes w (codes "-t") et ∙ ap own_form (some_same Target v h))
-valued_cases w v false false false false false false false false true m q k ea eb ec ed ee ef eg et ep em eq ek h = inl (same_bytes w (codes "-p") ep ∙ ap own_form (some_same Label v h))
-valued_cases w v false false false false false false false false false true q k ea eb ec ed ee ef eg et ep em eq ek h = inl (same_bytes w (codes "-f") em ∙ ap own_form (some_same Image v h))
-valued_cases w v false false false false false false false false false false true k ea eb ec ed ee ef eg et ep em eq ek h = inl (same_bytes w (codes "--sha256") eq ∙ ap own_form (some_same Digest v h))
-valued_cases w v false false false false false false false false false false false true ea eb ec ed ee ef eg et ep em eq ek h = inl (same_bytes w (codes "--cause") ek ∙ ap own_form (some_same Cause v h))
-valued_cases w v false false false false false false false false false false false false ea eb ec ed ee ef eg et ep em eq ek h = inr (long_words w v h)
+valued_cases w v true b c d e f g t p m q k o ea eb ec ed ee ef eg et ep em eq ek eo h = inl (same_bytes w (codes "-i") ea ∙ ap own_form (some_same Input v h))
+valued_cases w v false true c d e f g t p m q k o ea eb ec ed ee ef eg et ep em eq ek eo h = inl (same_bytes w (codes "-n") eb ∙ ap own_form (some_same Name v h))
+valued_cases w v false false true d e f g t p m q k o ea eb ec ed ee ef eg et ep em eq ek eo h = inl (same_bytes w (codes "-g") ec ∙ ap own_form (some_same GetOption v h))
+valued_cases w v false false false true e f g t p m q k o ea eb ec ed ee ef eg et ep em eq ek eo h = inl (same_bytes w (codes "-s") ed ∙ ap own_form (some_same SetOption v h))
+valued_cases w v false false false false true f g t p m q k o ea eb ec ed ee ef eg et ep em eq ek eo h = inl (same_bytes w (codes "-c") ee ∙ ap own_form (some_same Settings v h))
+valued_cases w v false false false false false true g t p m q k o ea eb ec ed ee ef eg et ep em eq ek eo h = inl (same_bytes w (codes "-k") ef ∙ ap own_form (some_same Key v h))
+valued_cases w v false false false false false false true t p m q k o ea eb ec ed ee ef eg et ep em eq ek eo h = inl (same_bytes w (codes "-x") eg ∙ ap own_form (some_same Script v h))
+valued_cases w v false false false false false false false true p m q k o ea eb ec ed ee ef eg et ep em eq ek eo h = inl (same_bytes w (codes "-t") et ∙ ap own_form (some_same Target v h))
+valued_cases w v false false false false false false false false true m q k o ea eb ec ed ee ef eg et ep em eq ek eo h = inl (same_bytes w (codes "-p") ep ∙ ap own_form (some_same Label v h))
+valued_cases w v false false false false false false false false false true q k o ea eb ec ed ee ef eg et ep em eq ek eo h = inl (same_bytes w (codes "-f") em ∙ ap own_form (some_same Image v h))
+valued_cases w v false false false false false false false false false false true k o ea eb ec ed ee ef eg et ep em eq ek eo h = inl (same_bytes w (codes "--sha256") eq ∙ ap own_form (some_same Digest v h))
+valued_cases w v false false false false false false false false false false false true o ea eb ec ed ee ef eg et ep em eq ek eo h = inl (same_bytes w (codes "--cause") ek ∙ ap own_form (some_same Cause v h))
+valued_cases w v false false false false false false false false false false false false true ea eb ec ed ee ef eg et ep em eq ek eo h = inl (same_bytes w (codes "--old-key") eo ∙ ap own_form (some_same OldKey v h))
+valued_cases w v false false false false false false false false false false false false false ea eb ec ed ee ef eg et ep em eq ek eo h = inr (long_words w v h)
 
 valued_words : (w : List ℕ) (v : Valued) → valued_of w ≡ Some v → (w ≡ own_form v) ⊎ IsLong w v
 valued_words w v h =
-    valued_cases w v (bytes_eq w (codes "-i")) (bytes_eq w (codes "-n")) (bytes_eq w (codes "-g")) (bytes_eq w (codes "-s")) (bytes_eq w (codes "-c")) (bytes_eq w (codes "-k")) (bytes_eq w (codes "-x")) (bytes_eq w (codes "-t")) (bytes_eq w (codes "-p")) (bytes_eq w (codes "-f")) (bytes_eq w (codes "--sha256")) (bytes_eq w (codes "--cause")) refl refl refl refl refl refl refl refl refl refl refl refl h
+    valued_cases w v (bytes_eq w (codes "-i")) (bytes_eq w (codes "-n")) (bytes_eq w (codes "-g")) (bytes_eq w (codes "-s")) (bytes_eq w (codes "-c")) (bytes_eq w (codes "-k")) (bytes_eq w (codes "-x")) (bytes_eq w (codes "-t")) (bytes_eq w (codes "-p")) (bytes_eq w (codes "-f")) (bytes_eq w (codes "--sha256")) (bytes_eq w (codes "--cause")) (bytes_eq w (codes "--old-key")) refl refl refl refl refl refl refl refl refl refl refl refl refl h
 
 -- a word is what stands before its first `=`, that sign, and what stands after it
 cut_behind : (c : ℕ) (cs : List ℕ) (n m k : ℕ) → m ≡ suc n → k ≡ suc (n + 1) → cs ≡ take n cs ++ 61 ∷ drop (n + 1) cs → c ∷ cs ≡ take m (c ∷ cs) ++ 61 ∷ drop k (c ∷ cs)
@@ -707,7 +730,7 @@ end_read start row given (Some made) command e h = record {
   all = given;
   spelt_so = refl;
   has_all = refl;
-  gives = record { files = append-nil (option_to_list given.file); names = append-nil (option_to_list given.name); settings = append-nil (option_to_list given.settings); scripts = append-nil (option_to_list given.script); keys = append-nil (option_to_list given.key); targets = append-nil (option_to_list given.target); labels = append-nil (option_to_list given.label); images = append-nil (option_to_list given.image); digests = append-nil (option_to_list given.digest); causes = append-nil (option_to_list given.cause); actions = append-nil given.actions };
+  gives = record { files = append-nil (option_to_list given.file); names = append-nil (option_to_list given.name); settings = append-nil (option_to_list given.settings); scripts = append-nil (option_to_list given.script); keys = append-nil (option_to_list given.key); olds = append-nil (option_to_list given.old_key); targets = append-nil (option_to_list given.target); labels = append-nil (option_to_list given.label); images = append-nil (option_to_list given.image); digests = append-nil (option_to_list given.digest); causes = append-nil (option_to_list given.cause); actions = append-nil given.actions };
   made = e ∙ ap (λ c. Some c) (ok_same made command h);
 }
 
@@ -727,68 +750,75 @@ item_had : (row : Row) (form : OptionForm) (valued : Valued) (value : List ℕ) 
 item_had row form valued value had formed is =
     ap (λ b. b && (has_form form valued && is_value valued value)) had ∙ ap (λ b. b && is_value valued value) formed ∙ is
 
-takes_begun : (row : Row) (form : OptionForm) (valued : Valued) (value : List ℕ) (items : List Item) (file name settings script key target label image digest : Option (List ℕ)) (cause : Option CauseWord) (actions : List Action) (behind all : Given) →
-    has_form form valued ≡ true → may_come row valued (record { file = file; name = name; settings = settings; script = script; key = key; target = target; label = label; image = image; digest = digest; cause = cause; actions = actions }) ≡ true →
-    with_option valued value (record { file = file; name = name; settings = settings; script = script; key = key; target = target; label = label; image = image; digest = digest; cause = cause; actions = actions }) ≡ Some behind → Gives behind items all →
-    Begun row form valued value items (record { file = file; name = name; settings = settings; script = script; key = key; target = target; label = label; image = image; digest = digest; cause = cause; actions = actions }) all
-takes_begun row form Input value items None name settings script key target label image digest cause actions behind all formed may with g =
+takes_begun : (row : Row) (form : OptionForm) (valued : Valued) (value : List ℕ) (items : List Item) (file name settings script key old target label image digest : Option (List ℕ)) (cause : Option CauseWord) (actions : List Action) (behind all : Given) →
+    has_form form valued ≡ true → may_come row valued (record { file = file; name = name; settings = settings; script = script; key = key; old_key = old; target = target; label = label; image = image; digest = digest; cause = cause; actions = actions }) ≡ true →
+    with_option valued value (record { file = file; name = name; settings = settings; script = script; key = key; old_key = old; target = target; label = label; image = image; digest = digest; cause = cause; actions = actions }) ≡ Some behind → Gives behind items all →
+    Begun row form valued value items (record { file = file; name = name; settings = settings; script = script; key = key; old_key = old; target = target; label = label; image = image; digest = digest; cause = cause; actions = actions }) all
+takes_begun row form Input value items None name settings script key old target label image digest cause actions behind all formed may with g =
     let given = subst (λ behind. Gives behind items all) (sym (some_same _ behind with)) g in
     record {
       had = item_had row form Input value refl formed refl;
-      gives = record { files = given.files; names = given.names; settings = given.settings; scripts = given.scripts; keys = given.keys; targets = given.targets; labels = given.labels; images = given.images; digests = given.digests; causes = given.causes; actions = given.actions };
+      gives = record { files = given.files; names = given.names; settings = given.settings; scripts = given.scripts; keys = given.keys; olds = given.olds; targets = given.targets; labels = given.labels; images = given.images; digests = given.digests; causes = given.causes; actions = given.actions };
     }
-takes_begun row form Input value items (Some x) name settings script key target label image digest cause actions behind all formed may with g = absurd (cc ((both (has_option row Input) false may).1))
-takes_begun row form Name value items file None settings script key target label image digest cause actions behind all formed may with g =
+takes_begun row form Input value items (Some x) name settings script key old target label image digest cause actions behind all formed may with g = absurd (cc ((both (has_option row Input) false may).1))
+takes_begun row form Name value items file None settings script key old target label image digest cause actions behind all formed may with g =
     let given = subst (λ behind. Gives behind items all) (sym (some_same _ behind with)) g in
     record {
       had = item_had row form Name value refl formed refl;
-      gives = record { files = given.files; names = given.names; settings = given.settings; scripts = given.scripts; keys = given.keys; targets = given.targets; labels = given.labels; images = given.images; digests = given.digests; causes = given.causes; actions = given.actions };
+      gives = record { files = given.files; names = given.names; settings = given.settings; scripts = given.scripts; keys = given.keys; olds = given.olds; targets = given.targets; labels = given.labels; images = given.images; digests = given.digests; causes = given.causes; actions = given.actions };
     }
-takes_begun row form Name value items file (Some x) settings script key target label image digest cause actions behind all formed may with g = absurd (cc ((both (has_option row Name) false may).1))
-takes_begun row form Settings value items file name None script key target label image digest cause actions behind all formed may with g =
+takes_begun row form Name value items file (Some x) settings script key old target label image digest cause actions behind all formed may with g = absurd (cc ((both (has_option row Name) false may).1))
+takes_begun row form Settings value items file name None script key old target label image digest cause actions behind all formed may with g =
     let given = subst (λ behind. Gives behind items all) (sym (some_same _ behind with)) g in
     record {
       had = item_had row form Settings value (both _ _ may).0 formed refl;
-      gives = record { files = given.files; names = given.names; settings = given.settings; scripts = given.scripts; keys = given.keys; targets = given.targets; labels = given.labels; images = given.images; digests = given.digests; causes = given.causes; actions = given.actions };
+      gives = record { files = given.files; names = given.names; settings = given.settings; scripts = given.scripts; keys = given.keys; olds = given.olds; targets = given.targets; labels = given.labels; images = given.images; digests = given.digests; causes = given.causes; actions = given.actions };
     }
-takes_begun row form Settings value items file name (Some x) script key target label image digest cause actions behind all formed may with g = absurd (cc ((both (has_option row Settings) false may).1))
-takes_begun row form Script value items file name settings None key target label image digest cause actions behind all formed may with g =
+takes_begun row form Settings value items file name (Some x) script key old target label image digest cause actions behind all formed may with g = absurd (cc ((both (has_option row Settings) false may).1))
+takes_begun row form Script value items file name settings None key old target label image digest cause actions behind all formed may with g =
     let given = subst (λ behind. Gives behind items all) (sym (some_same _ behind with)) g in
     record {
       had = item_had row form Script value (both _ _ may).0 formed refl;
-      gives = record { files = given.files; names = given.names; settings = given.settings; scripts = given.scripts; keys = given.keys; targets = given.targets; labels = given.labels; images = given.images; digests = given.digests; causes = given.causes; actions = given.actions };
+      gives = record { files = given.files; names = given.names; settings = given.settings; scripts = given.scripts; keys = given.keys; olds = given.olds; targets = given.targets; labels = given.labels; images = given.images; digests = given.digests; causes = given.causes; actions = given.actions };
     }
-takes_begun row form Script value items file name settings (Some x) key target label image digest cause actions behind all formed may with g = absurd (cc ((both (has_option row Script) false may).1))
-takes_begun row form Key value items file name settings script None target label image digest cause actions behind all formed may with g =
+takes_begun row form Script value items file name settings (Some x) key old target label image digest cause actions behind all formed may with g = absurd (cc ((both (has_option row Script) false may).1))
+takes_begun row form Key value items file name settings script None old target label image digest cause actions behind all formed may with g =
     let given = subst (λ behind. Gives behind items all) (sym (some_same _ behind with)) g in
     record {
       had = item_had row form Key value (both _ _ may).0 formed refl;
-      gives = record { files = given.files; names = given.names; settings = given.settings; scripts = given.scripts; keys = given.keys; targets = given.targets; labels = given.labels; images = given.images; digests = given.digests; causes = given.causes; actions = given.actions };
+      gives = record { files = given.files; names = given.names; settings = given.settings; scripts = given.scripts; keys = given.keys; olds = given.olds; targets = given.targets; labels = given.labels; images = given.images; digests = given.digests; causes = given.causes; actions = given.actions };
     }
-takes_begun row form Key value items file name settings script (Some x) target label image digest cause actions behind all formed may with g = absurd (cc ((both (has_option row Key) false may).1))
-takes_begun row form Target value items file name settings script key None label image digest cause actions behind all formed may with g =
+takes_begun row form Key value items file name settings script (Some x) old target label image digest cause actions behind all formed may with g = absurd (cc ((both (has_option row Key) false may).1))
+takes_begun row form OldKey value items file name settings script key None target label image digest cause actions behind all formed may with g =
+    let given = subst (λ behind. Gives behind items all) (sym (some_same _ behind with)) g in
+    record {
+      had = item_had row form OldKey value (both _ _ may).0 formed refl;
+      gives = record { files = given.files; names = given.names; settings = given.settings; scripts = given.scripts; keys = given.keys; olds = given.olds; targets = given.targets; labels = given.labels; images = given.images; digests = given.digests; causes = given.causes; actions = given.actions };
+    }
+takes_begun row form OldKey value items file name settings script key (Some x) target label image digest cause actions behind all formed may with g = absurd (cc ((both (has_option row OldKey) false may).1))
+takes_begun row form Target value items file name settings script key old None label image digest cause actions behind all formed may with g =
     let given = subst (λ behind. Gives behind items all) (sym (some_same _ behind with)) g in
     record {
       had = item_had row form Target value (both _ _ may).0 formed refl;
-      gives = record { files = given.files; names = given.names; settings = given.settings; scripts = given.scripts; keys = given.keys; targets = given.targets; labels = given.labels; images = given.images; digests = given.digests; causes = given.causes; actions = given.actions };
+      gives = record { files = given.files; names = given.names; settings = given.settings; scripts = given.scripts; keys = given.keys; olds = given.olds; targets = given.targets; labels = given.labels; images = given.images; digests = given.digests; causes = given.causes; actions = given.actions };
     }
-takes_begun row form Target value items file name settings script key (Some x) label image digest cause actions behind all formed may with g = absurd (cc ((both (has_option row Target) false may).1))
-takes_begun row form Label value items file name settings script key target None image digest cause actions behind all formed may with g =
+takes_begun row form Target value items file name settings script key old (Some x) label image digest cause actions behind all formed may with g = absurd (cc ((both (has_option row Target) false may).1))
+takes_begun row form Label value items file name settings script key old target None image digest cause actions behind all formed may with g =
     let given = subst (λ behind. Gives behind items all) (sym (some_same _ behind with)) g in
     record {
       had = item_had row form Label value (both _ _ may).0 formed refl;
-      gives = record { files = given.files; names = given.names; settings = given.settings; scripts = given.scripts; keys = given.keys; targets = given.targets; labels = given.labels; images = given.images; digests = given.digests; causes = given.causes; actions = given.actions };
+      gives = record { files = given.files; names = given.names; settings = given.settings; scripts = given.scripts; keys = given.keys; olds = given.olds; targets = given.targets; labels = given.labels; images = given.images; digests = given.digests; causes = given.causes; actions = given.actions };
     }
-takes_begun row form Label value items file name settings script key target (Some x) image digest cause actions behind all formed may with g = absurd (cc ((both (has_option row Label) false may).1))
-takes_begun row form Image value items file name settings script key target label None digest cause actions behind all formed may with g =
+takes_begun row form Label value items file name settings script key old target (Some x) image digest cause actions behind all formed may with g = absurd (cc ((both (has_option row Label) false may).1))
+takes_begun row form Image value items file name settings script key old target label None digest cause actions behind all formed may with g =
     let given = subst (λ behind. Gives behind items all) (sym (some_same _ behind with)) g in
     record {
       had = item_had row form Image value (both _ _ may).0 formed refl;
-      gives = record { files = given.files; names = given.names; settings = given.settings; scripts = given.scripts; keys = given.keys; targets = given.targets; labels = given.labels; images = given.images; digests = given.digests; causes = given.causes; actions = given.actions };
+      gives = record { files = given.files; names = given.names; settings = given.settings; scripts = given.scripts; keys = given.keys; olds = given.olds; targets = given.targets; labels = given.labels; images = given.images; digests = given.digests; causes = given.causes; actions = given.actions };
     }
-takes_begun row form Image value items file name settings script key target label (Some x) digest cause actions behind all formed may with g = absurd (cc ((both (has_option row Image) false may).1))
-takes_begun row form Digest value items file name settings script key target label image None cause actions behind all formed may with g =
-    let before : Given = record { file = file; name = name; settings = settings; script = script; key = key; target = target; label = label; image = image; digest = None; cause = cause; actions = actions } in
+takes_begun row form Image value items file name settings script key old target label (Some x) digest cause actions behind all formed may with g = absurd (cc ((both (has_option row Image) false may).1))
+takes_begun row form Digest value items file name settings script key old target label image None cause actions behind all formed may with g =
+    let before : Given = record { file = file; name = name; settings = settings; script = script; key = key; old_key = old; target = target; label = label; image = image; digest = None; cause = cause; actions = actions } in
     let spelt = on_map (λ digest. record before { digest = Some digest }) (digest_spelt value) behind with in
     let given = subst (λ behind. Gives behind items all) (sym spelt.2) g in
     record {
@@ -799,6 +829,7 @@ takes_begun row form Digest value items file name settings script key target lab
         settings = given.settings;
         scripts = given.scripts;
         keys = given.keys;
+        olds = given.olds;
         targets = given.targets;
         labels = given.labels;
         images = given.images;
@@ -807,9 +838,9 @@ takes_begun row form Digest value items file name settings script key target lab
         actions = given.actions;
       };
     }
-takes_begun row form Digest value items file name settings script key target label image (Some x) cause actions behind all formed may with g = absurd (cc ((both (has_option row Digest) false may).1))
-takes_begun row form Cause value items file name settings script key target label image digest None actions behind all formed may with g =
-    let before : Given = record { file = file; name = name; settings = settings; script = script; key = key; target = target; label = label; image = image; digest = digest; cause = None; actions = actions } in
+takes_begun row form Digest value items file name settings script key old target label image (Some x) cause actions behind all formed may with g = absurd (cc ((both (has_option row Digest) false may).1))
+takes_begun row form Cause value items file name settings script key old target label image digest None actions behind all formed may with g =
+    let before : Given = record { file = file; name = name; settings = settings; script = script; key = key; old_key = old; target = target; label = label; image = image; digest = digest; cause = None; actions = actions } in
     let cause = on_map (λ cause. record before { cause = Some cause }) (cause_word_of value) behind with in
     let given = subst (λ behind. Gives behind items all) (sym cause.2) g in
     record {
@@ -820,6 +851,7 @@ takes_begun row form Cause value items file name settings script key target labe
         settings = given.settings;
         scripts = given.scripts;
         keys = given.keys;
+        olds = given.olds;
         targets = given.targets;
         labels = given.labels;
         images = given.images;
@@ -828,28 +860,28 @@ takes_begun row form Cause value items file name settings script key target labe
         actions = given.actions;
       };
     }
-takes_begun row form Cause value items file name settings script key target label image digest (Some x) actions behind all formed may with g = absurd (cc ((both (has_option row Cause) false may).1))
-takes_begun row form GetOption value items file name settings script key target label image digest cause actions behind all formed may with g =
-    let before : Given = record { file = file; name = name; settings = settings; script = script; key = key; target = target; label = label; image = image; digest = digest; cause = cause; actions = actions } in
+takes_begun row form Cause value items file name settings script key old target label image digest (Some x) actions behind all formed may with g = absurd (cc ((both (has_option row Cause) false may).1))
+takes_begun row form GetOption value items file name settings script key old target label image digest cause actions behind all formed may with g =
+    let before : Given = record { file = file; name = name; settings = settings; script = script; key = key; old_key = old; target = target; label = label; image = image; digest = digest; cause = cause; actions = actions } in
     let given = subst (λ behind. Gives behind items all) (sym (some_same _ behind with)) g in
     record {
       had = item_had row form GetOption value (both _ _ may).0 formed refl;
-      gives = action_before before all items (Takes form GetOption value) (Get value) refl refl refl refl refl refl refl refl refl refl refl given;
+      gives = action_before before all items (Takes form GetOption value) (Get value) refl refl refl refl refl refl refl refl refl refl refl refl given;
     }
-takes_begun row form SetOption value items file name settings script key target label image digest cause actions behind all formed may with g =
-    let before : Given = record { file = file; name = name; settings = settings; script = script; key = key; target = target; label = label; image = image; digest = digest; cause = cause; actions = actions } in
+takes_begun row form SetOption value items file name settings script key old target label image digest cause actions behind all formed may with g =
+    let before : Given = record { file = file; name = name; settings = settings; script = script; key = key; old_key = old; target = target; label = label; image = image; digest = digest; cause = cause; actions = actions } in
     let set = on_map (λ action. with_action action before) (set_in value) behind with in
     let given = subst (λ behind. Gives behind items all) (sym set.2) g in
     record {
       had = item_had row form SetOption value (both _ _ may).0 formed (set_value value set.0 (has_sign value) refl set.1);
-      gives = action_before before all items (Takes form SetOption value) set.0 refl refl refl refl refl refl refl refl refl refl set.1 given;
+      gives = action_before before all items (Takes form SetOption value) set.0 refl refl refl refl refl refl refl refl refl refl refl set.1 given;
     }
 
 takes_read : (row : Row) (form : OptionForm) (valued : Valued) (value : List ℕ) (given behind : Given) (rest : List (List ℕ)) (command : Command) →
     has_form form valued ≡ true → may_come row valued given ≡ true → with_option valued value given ≡ Some behind → IsRead row behind rest command →
     IsRead row given (item_words (Takes form valued value) ++ rest) command
 takes_read row form valued value given behind rest command formed may with r =
-    let begun = takes_begun row form valued value r.items given.file given.name given.settings given.script given.key given.target given.label given.image given.digest given.cause given.actions behind r.all formed may with r.gives in
+    let begun = takes_begun row form valued value r.items given.file given.name given.settings given.script given.key given.old_key given.target given.label given.image given.digest given.cause given.actions behind r.all formed may with r.gives in
     record {
       items = Takes form valued value ∷ r.items;
       all = r.all;
@@ -860,14 +892,14 @@ takes_read row form valued value given behind rest command formed may with r =
     }
 
 dump_read : (row : Row) (item : Item) (w : List ℕ) (action : Action) (given : Given) (rest : List (List ℕ)) (command : Command) →
-    w ∷ [] ≡ item_words item → has_item row item ≡ true → file_in item ≡ None → state_name_in item ≡ None → settings_in item ≡ None → script_file_in item ≡ None → key_file_in item ≡ None → target_in item ≡ None → label_in item ≡ None → image_file_in item ≡ None → digest_in item ≡ None → cause_in item ≡ None → action_in item ≡ Some action →
+    w ∷ [] ≡ item_words item → has_item row item ≡ true → file_in item ≡ None → state_name_in item ≡ None → settings_in item ≡ None → script_file_in item ≡ None → key_file_in item ≡ None → old_file_in item ≡ None → target_in item ≡ None → label_in item ≡ None → image_file_in item ≡ None → digest_in item ≡ None → cause_in item ≡ None → action_in item ≡ Some action →
     IsRead row (with_action action given) rest command → IsRead row given (w ∷ rest) command
-dump_read row item w action given rest command spelling had no_file no_name no_settings no_script no_key no_target no_label no_image no_digest no_cause does r = record {
+dump_read row item w action given rest command spelling had no_file no_name no_settings no_script no_key no_old no_target no_label no_image no_digest no_cause does r = record {
   items = item ∷ r.items;
   all = r.all;
   spelt_so = ap (λ ws. ws ++ rest) spelling ∙ ap (λ rest. item_words item ++ rest) r.spelt_so;
   has_all = ap (λ b. b && list_all (has_item row) r.items) had ∙ r.has_all;
-  gives = action_before given r.all r.items item action no_file no_name no_settings no_script no_key no_target no_label no_image no_digest no_cause does r.gives;
+  gives = action_before given r.all r.items item action no_file no_name no_settings no_script no_key no_old no_target no_label no_image no_digest no_cause does r.gives;
   made = r.made;
 }
 
@@ -879,11 +911,11 @@ dump_cases : (row : Row) (w : List ℕ) (action : Action) (given : Given) (rest 
     (if a || b then Some Dump else if c then Some DumpShell else None) ≡ Some action →
     IsRead row (with_action action given) rest command → IsRead row given (w ∷ rest) command
 dump_cases row w action given rest command true b c had ea eb ec h r =
-    dump_read row ShortDump w action given rest command (one_word _ _ (same_bytes w (codes "-d") ea)) had refl refl refl refl refl refl refl refl refl refl h r
+    dump_read row ShortDump w action given rest command (one_word _ _ (same_bytes w (codes "-d") ea)) had refl refl refl refl refl refl refl refl refl refl refl h r
 dump_cases row w action given rest command false true c had ea eb ec h r =
-    dump_read row LongDump w action given rest command (one_word _ _ (same_bytes w (codes "--dump") eb)) had refl refl refl refl refl refl refl refl refl refl h r
+    dump_read row LongDump w action given rest command (one_word _ _ (same_bytes w (codes "--dump") eb)) had refl refl refl refl refl refl refl refl refl refl refl h r
 dump_cases row w action given rest command false false true had ea eb ec h r =
-    dump_read row ShellDump w action given rest command (one_word _ _ (same_bytes w (codes "--dump-shell") ec)) had refl refl refl refl refl refl refl refl refl refl h r
+    dump_read row ShellDump w action given rest command (one_word _ _ (same_bytes w (codes "--dump-shell") ec)) had refl refl refl refl refl refl refl refl refl refl refl h r
 dump_cases row w action given rest command false false false had ea eb ec h r = absurd (cc)
 
 -- the words after a stage spell the rest of a command
@@ -1026,6 +1058,9 @@ row_made rows.History words given command made =
     of_part rows.History words
     (λ (d : Described). commands.History (record { described = d }))
     (λ d is. is) (described_in given) command made
+row_made rows.Rekey words given command made =
+    of_part rows.Rekey words (λ (rekey : RekeyCommand). commands.Rekey rekey)
+    (λ rekey is. is) (rekey_in given) command made
 
 -- a word that is found in the table is a row's name, by each of its rows
 named_step : (w : List ℕ) (row first : Row) (rest : Option Row) →
@@ -1048,7 +1083,8 @@ row_named w row =
     named_step w row rows.Shell _ (
     named_step w row rows.Install _ (
     named_step w row rows.Verify _ (
-    named_step w row rows.History None (λ none. absurd (cc))))))))
+    named_step w row rows.History _ (
+    named_step w row rows.Rekey None (λ none. absurd (cc)))))))))
 
 options_of_words : (row : Row) (w : List ℕ) (rest : List (List ℕ)) (command : Command) → row_of w ≡ Some row → words_from 1 (Options row None none_given) rest ≡ Ok command →
     Spells (w ∷ rest) command
@@ -1065,6 +1101,7 @@ options_of_words row w rest command named h =
       settings_are = r.gives.settings;
       script_is = r.gives.scripts;
       key_is = r.gives.keys;
+      old_is = r.gives.olds;
       target_is = r.gives.targets;
       label_is = r.gives.labels;
       image_is = r.gives.images;

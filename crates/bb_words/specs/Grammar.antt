@@ -14,7 +14,7 @@ use Rattle.bb_words.specs.declared.command.RawAction.TheVariants.{Look, Write}
 use Rattle.bb_words.specs.declared.command.RawCommand.{RawCommand}
 use Rattle.bb_words.specs.declared.given.Given.{Given}
 use Rattle.bb_words.specs.declared.option.Valued.{Valued}
-use Rattle.bb_words.specs.declared.option.Valued.TheVariants.{Input, Name, Get as GetOption, Set as SetOption, Settings, Script, Key, Target, Label, Image, Digest, Cause}
+use Rattle.bb_words.specs.declared.option.Valued.TheVariants.{Input, Name, Get as GetOption, Set as SetOption, Settings, Script, Key, OldKey, Target, Label, Image, Digest, Cause}
 use Rattle.bb_words.specs.declared.row.Row.{Row}
 use Rattle.bb_words.specs.declared.row.Row.TheVariants as rows
 use Rattle.bb_words.specs.Options.{cause_word_of, digest_spelt, has_sign, set_in}
@@ -72,6 +72,7 @@ own_form SetOption = codes "-s"
 own_form Settings = codes "-c"
 own_form Script = codes "-x"
 own_form Key = codes "-k"
+own_form OldKey = codes "--old-key"
 own_form Target = codes "-t"
 own_form Label = codes "-p"
 own_form Image = codes "-f"
@@ -83,6 +84,7 @@ abbrev pub has_long : Valued → Bool
 has_long Settings = false
 has_long Script = false
 has_long Key = false
+has_long OldKey = false
 has_long Target = false
 has_long Label = false
 has_long Image = false
@@ -98,6 +100,7 @@ long_form SetOption = codes "--set"
 long_form Settings = []
 long_form Script = []
 long_form Key = []
+long_form OldKey = []
 long_form Target = []
 long_form Label = []
 long_form Image = []
@@ -133,8 +136,9 @@ has_item row (Takes form valued value) =
     has_option row valued && (has_form form valued && is_value valued value)
 has_item row _ = has_dumps row
 
--- the file, the state's name, the files of the settings, of the script and of the key, the target,
--- the slot's label, the file of the image, its digest, the cause and the action that an item gives
+-- the file, the state's name, the files of the settings, of the script, of the key and of the old
+-- one, the target, the slot's label, the file of the image, its digest, the cause and the action
+-- that an item gives
 abbrev pub file_in : Item → Option (List ℕ)
 file_in (Takes form Input value) = Some value
 file_in _ = None
@@ -154,6 +158,10 @@ script_file_in _ = None
 abbrev pub key_file_in : Item → Option (List ℕ)
 key_file_in (Takes form Key value) = Some value
 key_file_in _ = None
+
+abbrev pub old_file_in : Item → Option (List ℕ)
+old_file_in (Takes form OldKey value) = Some value
+old_file_in _ = None
 
 abbrev pub target_in : Item → Option (List ℕ)
 target_in (Takes form Target value) = Some value
@@ -181,6 +189,7 @@ action_in (Takes form Name value) = None
 action_in (Takes form Settings value) = None
 action_in (Takes form Script value) = None
 action_in (Takes form Key value) = None
+action_in (Takes form OldKey value) = None
 action_in (Takes form Target value) = None
 action_in (Takes form Label value) = None
 action_in (Takes form Image value) = None
@@ -193,9 +202,9 @@ action_in LongDump = Some Dump
 action_in ShellDump = Some DumpShell
 
 -- the command's name, and items that it has in any order: at most one file, one name, one file of
--- settings, one of a script, one of a key, one target, one label, one file of an image, one digest
--- and one cause, and the actions in their order; they make the command where those are there that
--- must be
+-- settings, one of a script, one of a key, one of an old key, one target, one label, one file of an
+-- image, one digest and one cause, and the actions in their order; they make the command where
+-- those are there that must be
 pub record IsSpelt (row : Row) (words : List (List ℕ)) (command : Command) : Type 0 where
   pub items : List Item
   pub given : Given
@@ -206,6 +215,7 @@ pub record IsSpelt (row : Row) (words : List (List ℕ)) (command : Command) : T
   pub settings_are : filter_map settings_in items ≡ option_to_list given.settings
   pub script_is : filter_map script_file_in items ≡ option_to_list given.script
   pub key_is : filter_map key_file_in items ≡ option_to_list given.key
+  pub old_is : filter_map old_file_in items ≡ option_to_list given.old_key
   pub target_is : filter_map target_in items ≡ option_to_list given.target
   pub label_is : filter_map label_in items ≡ option_to_list given.label
   pub image_is : filter_map image_file_in items ≡ option_to_list given.image
@@ -227,6 +237,7 @@ Spells words (commands.Shell shell) = IsSpelt rows.Shell words (commands.Shell s
 Spells words (commands.Install install) = IsSpelt rows.Install words (commands.Install install)
 Spells words (commands.Verify verify) = IsSpelt rows.Verify words (commands.Verify verify)
 Spells words (commands.History history) = IsSpelt rows.History words (commands.History history)
+Spells words (commands.Rekey rekey) = IsSpelt rows.Rekey words (commands.Rekey rekey)
 Spells words (commands.Menu menu) = words ≡ codes "menu" ∷ codes "--dir" ∷ menu.dir ∷ []
 Spells words (commands.Drill numbers) =
     (rest : List (List ℕ)) × (words ≡ codes "drill" ∷ rest) × IsDrill rest numbers

@@ -11,7 +11,7 @@ use Rattle.bb_words.specs.declared.command.CauseWord.{CauseWord}
 use Rattle.bb_words.specs.declared.command.CauseWord.TheVariants.{PowerOn, Reset, Other}
 use Rattle.bb_words.specs.declared.given.Given.{Given}
 use Rattle.bb_words.specs.declared.option.Valued.{Valued}
-use Rattle.bb_words.specs.declared.option.Valued.TheVariants.{Input, Name, Get as GetOption, Set as SetOption, Settings, Script, Key, Target, Label, Image, Digest, Cause}
+use Rattle.bb_words.specs.declared.option.Valued.TheVariants.{Input, Name, Get as GetOption, Set as SetOption, Settings, Script, Key, OldKey, Target, Label, Image, Digest, Cause}
 
 -- ---- what a word is
 
@@ -39,6 +39,7 @@ valued_of word =
     else if bytes_eq word (codes "-f") then Some Image
     else if bytes_eq word (codes "--sha256") then Some Digest
     else if bytes_eq word (codes "--cause") then Some Cause
+    else if bytes_eq word (codes "--old-key") then Some OldKey
     else long_of word
 
 -- a text has a `=`, and what stands before the first and what after it
@@ -87,6 +88,7 @@ none_given = record {
   settings = None;
   script = None;
   key = None;
+  old_key = None;
   target = None;
   label = None;
   image = None;
@@ -110,6 +112,7 @@ with_option Name value given = Some (record given { name = Some value })
 with_option Settings value given = Some (record given { settings = Some value })
 with_option Script value given = Some (record given { script = Some value })
 with_option Key value given = Some (record given { key = Some value })
+with_option OldKey value given = Some (record given { old_key = Some value })
 with_option Target value given = Some (record given { target = Some value })
 with_option Label value given = Some (record given { label = Some value })
 with_option Image value given = Some (record given { image = Some value })
@@ -127,6 +130,7 @@ given_once Name given = is_some given.name
 given_once Settings given = is_some given.settings
 given_once Script given = is_some given.script
 given_once Key given = is_some given.key
+given_once OldKey given = is_some given.old_key
 given_once Target given = is_some given.target
 given_once Label given = is_some given.label
 given_once Image given = is_some given.image

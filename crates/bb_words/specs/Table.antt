@@ -1,6 +1,6 @@
 -- The table of commands whose options come in any order: how each is called, which options it has,
 -- and which must be there. A command more is a row more.
-use Rattle.std.specs.Prelude.{ℕ, Bool, true, false, ◌&&◌, ◌||◌, not, List, codes, Option, Some, None, option_and_then, unwrap_or, if◌then◌else◌}
+use Rattle.std.specs.Prelude.{ℕ, Bool, true, false, ◌&&◌, ◌||◌, not, List, codes, Option, Some, None, is_some, option_and_then, unwrap_or, if◌then◌else◌}
 use Rattle.std.specs.Option.{option_map}
 use Rattle.std.specs.Str.{bytes_eq}
 use Rattle.bb_words.specs.declared.command.BootCommand.{BootCommand}
@@ -10,11 +10,12 @@ use Rattle.bb_words.specs.declared.command.Command.{Command}
 use Rattle.bb_words.specs.declared.command.Command.TheVariants as commands
 use Rattle.bb_words.specs.declared.command.Described.{Described}
 use Rattle.bb_words.specs.declared.command.InstallCommand.{InstallCommand}
+use Rattle.bb_words.specs.declared.command.RekeyCommand.{RekeyCommand}
 use Rattle.bb_words.specs.declared.command.SlotWords.{SlotWords}
 use Rattle.bb_words.specs.declared.command.VerifyCommand.{VerifyCommand}
 use Rattle.bb_words.specs.declared.given.Given.{Given}
 use Rattle.bb_words.specs.declared.option.Valued.{Valued}
-use Rattle.bb_words.specs.declared.option.Valued.TheVariants.{Input, Name, Get as GetOption, Set as SetOption, Settings, Script, Key, Target, Label, Image, Digest, Cause}
+use Rattle.bb_words.specs.declared.option.Valued.TheVariants.{Input, Name, Get as GetOption, Set as SetOption, Settings, Script, Key, OldKey, Target, Label, Image, Digest, Cause}
 use Rattle.bb_words.specs.declared.row.Row.{Row}
 use Rattle.bb_words.specs.declared.row.Row.TheVariants as rows
 use Rattle.bb_words.specs.Options.{given_once}
@@ -28,6 +29,7 @@ command_name_of rows.Shell = codes "shell"
 command_name_of rows.Install = codes "install"
 command_name_of rows.Verify = codes "verify"
 command_name_of rows.History = codes "history"
+command_name_of rows.Rekey = codes "rekey"
 
 -- the command that is called so
 abbrev pub row_of : List ℕ → Option Row
@@ -39,6 +41,7 @@ row_of word =
     else if bytes_eq word (command_name_of rows.Install) then Some rows.Install
     else if bytes_eq word (command_name_of rows.Verify) then Some rows.Verify
     else if bytes_eq word (command_name_of rows.History) then Some rows.History
+    else if bytes_eq word (command_name_of rows.Rekey) then Some rows.Rekey
     else None
 
 -- whether every row has an option: it says which state
@@ -50,18 +53,23 @@ is_common _ = false
 -- which options a row has besides
 abbrev pub has_besides : Row → Valued → Bool
 has_besides rows.State Key = true
+has_besides rows.State OldKey = true
 has_besides rows.State GetOption = true
 has_besides rows.State SetOption = true
 has_besides rows.MarkGood Key = true
+has_besides rows.MarkGood OldKey = true
 has_besides rows.MarkGood Settings = true
 has_besides rows.Boot Key = true
+has_besides rows.Boot OldKey = true
 has_besides rows.Boot Settings = true
 has_besides rows.Boot Cause = true
 has_besides rows.Shell Key = true
+has_besides rows.Shell OldKey = true
 has_besides rows.Shell Settings = true
 has_besides rows.Shell Script = true
 has_besides rows.Shell Cause = true
 has_besides rows.Install Key = true
+has_besides rows.Install OldKey = true
 has_besides rows.Install Settings = true
 has_besides rows.Install Target = true
 has_besides rows.Install Label = true
@@ -70,6 +78,9 @@ has_besides rows.Install Digest = true
 has_besides rows.Verify Label = true
 has_besides rows.Verify Image = true
 has_besides rows.History Key = true
+has_besides rows.History OldKey = true
+has_besides rows.Rekey Key = true
+has_besides rows.Rekey OldKey = true
 has_besides _ _ = false
 
 -- whether a row has an option with a value
@@ -88,7 +99,10 @@ cause_given given = unwrap_or given.cause Other
 -- the state that is named, where its file is given
 abbrev pub described_in : Given → Option Described
 described_in given =
-    option_map (λ file. record { file = file; name = given.name; key = given.key }) given.file
+    option_map
+    (λ file.
+    record { file = file; name = given.name; key = given.key; old_key = given.old_key })
+    given.file
 
 -- what `boot` is given: the state, the settings and the cause
 abbrev pub boot_in : Given → Option BootCommand
@@ -139,10 +153,21 @@ verify_in given =
     (slot_given given.label given.image))
     (described_in given)
 
+-- a change of key of a state, where both keys are named
+abbrev pub rekey_by : Described → Option RekeyCommand
+rekey_by described =
+    if is_some described.key && is_some described.old_key
+    then Some (record { described = described })
+    else None
+
+-- what `rekey` is given: the state and both keys
+abbrev pub rekey_in : Given → Option RekeyCommand
+rekey_in given = option_and_then rekey_by (described_in given)
+
 -- the command that its options make, where those are given that must be: of `state` and `history`
 -- the file, of `mark-good`, `boot`, `shell` and `install` that of the settings too, of `shell` that
--- of the script, of `install` and `verify` the slot and its image, and of `install` the target and
--- the digest
+-- of the script, of `install` and `verify` the slot and its image, of `install` the target and the
+-- digest, and of `rekey` the file and those of both keys
 abbrev pub command_of : Row → Given → Option Command
 command_of rows.State given =
     option_map
@@ -167,6 +192,7 @@ command_of rows.History given =
     option_map
     (λ described. commands.History (record { described = described }))
     (described_in given)
+command_of rows.Rekey given = option_map (λ rekey. commands.Rekey rekey) (rekey_in given)
 
 -- whether an option may come: the command has it, and it wasn't given before if it comes once
 abbrev pub may_come : Row → Valued → Given → Bool

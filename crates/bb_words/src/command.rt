@@ -11,6 +11,7 @@ pub enum Command {
     Install(InstallCommand),
     Verify(VerifyCommand),
     History(HistoryCommand),
+    Rekey(RekeyCommand),
     Menu(MenuCommand),
     Drill(DrillNumbers),
 }
@@ -24,6 +25,8 @@ pub struct Described {
     pub name: Option<Text>,
     /// `-k`: the file with the key, if that is said.
     pub key: Option<Text>,
+    /// `--old-key`: the file with the key that is being given up, if that is said.
+    pub old_key: Option<Text>,
 }
 
 /// `raw`: a raw record in three strides of a device.
@@ -102,7 +105,7 @@ pub struct InstallCommand {
     pub digest: Bytes,
 }
 
-/// `verify`: whether a slot holds an image. It has no `-k`.
+/// `verify`: whether a slot holds an image. It has no `-k` and no `--old-key`.
 #[derive(Debug, Drop)]
 pub struct VerifyCommand {
     pub described: Described,
@@ -112,6 +115,14 @@ pub struct VerifyCommand {
 /// `history`: what the copies' regions still hold, oldest first.
 #[derive(Debug, Drop)]
 pub struct HistoryCommand {
+    pub described: Described,
+}
+
+/// `rekey`: copies under the old key are written under the key, and those that couldn't be are
+/// counted.
+#[derive(Debug, Drop)]
+pub struct RekeyCommand {
+    /// Both keys are said.
     pub described: Described,
 }
 

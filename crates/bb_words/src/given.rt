@@ -9,7 +9,7 @@ ghost use Rattle.bb_words.specs.Words.{Options, after_joined, after_option, afte
 ghost use Rattle.bb_words.specs.Words.{before_value, command_at, next};
 
 use crate::digest::digest_spelt;
-use crate::made::{boot_by, described_by, install_by, slot_given};
+use crate::made::{boot_by, described_by, install_by, rekey_by, slot_given};
 use crate::option::{Valued, cause_of, cut_at_sign, dump_of, value_in, valued_of};
 use crate::row::Row;
 use crate::{
@@ -27,6 +27,7 @@ pub(crate) struct Given {
     pub settings: Option<Text>,
     pub script: Option<Text>,
     pub key: Option<Text>,
+    pub old_key: Option<Text>,
     pub target: Option<Text>,
     pub label: Option<Text>,
     pub image: Option<Text>,
@@ -46,6 +47,7 @@ impl Given {
             settings: None,
             script: None,
             key: None,
+            old_key: None,
             target: None,
             label: None,
             image: None,
@@ -136,6 +138,7 @@ impl Given {
             Valued::Settings => self.settings.is_some(),
             Valued::Script => self.script.is_some(),
             Valued::Key => self.key.is_some(),
+            Valued::OldKey => self.old_key.is_some(),
             Valued::Target => self.target.is_some(),
             Valued::Label => self.label.is_some(),
             Valued::Image => self.image.is_some(),
@@ -163,6 +166,7 @@ impl Given {
             Valued::Settings => self.settings = Some(Text::of(alloc, value)?),
             Valued::Script => self.script = Some(Text::of(alloc, value)?),
             Valued::Key => self.key = Some(Text::of(alloc, value)?),
+            Valued::OldKey => self.old_key = Some(Text::of(alloc, value)?),
             Valued::Target => self.target = Some(Text::of(alloc, value)?),
             Valued::Label => self.label = Some(Text::of(alloc, value)?),
             Valued::Image => self.image = Some(Text::of(alloc, value)?),
@@ -208,7 +212,7 @@ impl Given {
         ensures made { result ≡ command_of row self }
         ensures sized { IfSome result IsSized }
     {
-        let described = described_by(self.file?, self.name, self.key);
+        let described = described_by(self.file?, self.name, self.key, self.old_key);
         match (row, self.settings, self.script) {
             (Row::State, _, _) => Some(Command::State(StateCommand {
                 described,
@@ -235,6 +239,7 @@ impl Given {
                 Some(Command::Verify(VerifyCommand { described, slot }))
             }
             (Row::History, _, _) => Some(Command::History(HistoryCommand { described })),
+            (Row::Rekey, _, _) => Some(Command::Rekey(rekey_by(described)?)),
             _ => None,
         }
     }

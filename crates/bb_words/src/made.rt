@@ -1,14 +1,24 @@
 ghost use Rattle.std.specs.Prelude.{◌≡◌, unwrap_or};
-ghost use Rattle.bb_words.specs.Table.{install_by, slot_given};
+ghost use Rattle.bb_words.specs.Table.{install_by, rekey_by, slot_given};
 
-use crate::{BootCommand, CauseWord, Described, InstallCommand, SlotWords};
+use crate::{BootCommand, CauseWord, Described, InstallCommand, RekeyCommand, SlotWords};
 use bb_base::{Bytes, Text};
 
 /// The state that a command names.
-pub(crate) fn described_by(file: Text, name: Option<Text>, key: Option<Text>) -> Described
-    ensures { result ≡ record { file = file; name = name; key = key } }
+pub(crate) fn described_by(
+    file: Text,
+    name: Option<Text>,
+    key: Option<Text>,
+    old_key: Option<Text>,
+) -> Described
+    ensures { result ≡ record { file = file; name = name; key = key; old_key = old_key } }
 {
-    Described { file, name, key }
+    Described {
+        file,
+        name,
+        key,
+        old_key,
+    }
 }
 
 /// The slot and its image, where both are named.
@@ -55,5 +65,16 @@ pub(crate) fn boot_by(described: Described, settings: Text, cause: Option<CauseW
         described,
         settings,
         cause: cause.unwrap_or(CauseWord::Other),
+    }
+}
+
+/// What `rekey` is given, where both keys are named.
+pub(crate) fn rekey_by(described: Described) -> Option<RekeyCommand>
+    ensures { result ≡ rekey_by described }
+{
+    if described.key.is_some() && described.old_key.is_some() {
+        Some(RekeyCommand { described })
+    } else {
+        None
     }
 }

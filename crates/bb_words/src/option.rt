@@ -21,6 +21,8 @@ pub(crate) enum Valued {
     Settings,
     /// `-k`, which has no long form
     Key,
+    /// `--old-key`, whose value is the next word alone
+    OldKey,
     /// `-x`, which has no long form
     Script,
     /// `-t`, which has no long form
@@ -72,6 +74,7 @@ pub(crate) fn valued_of(word: &str) -> Option<Valued>
         "-f" => Some(Valued::Image),
         "--sha256" => Some(Valued::Digest),
         "--cause" => Some(Valued::Cause),
+        "--old-key" => Some(Valued::OldKey),
         _ => long_of(word),
     }
 }

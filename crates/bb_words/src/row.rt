@@ -14,6 +14,7 @@ pub(crate) enum Row {
     Install,
     Verify,
     History,
+    Rekey,
 }
 
 impl Row {
@@ -29,6 +30,7 @@ impl Row {
             "install" => Some(Row::Install),
             "verify" => Some(Row::Verify),
             "history" => Some(Row::History),
+            "rekey" => Some(Row::Rekey),
             _ => None,
         }
     }
@@ -51,7 +53,7 @@ impl Row {
             }
             Valued::Script => matches!(self, Row::Shell),
             Valued::Cause => matches!(self, Row::Boot | Row::Shell),
-            Valued::Key => !matches!(self, Row::Verify),
+            Valued::Key | Valued::OldKey => !matches!(self, Row::Verify),
             Valued::Target | Valued::Digest => matches!(self, Row::Install),
             Valued::Label | Valued::Image => matches!(self, Row::Install | Row::Verify),
             Valued::Input | Valued::Name => false,

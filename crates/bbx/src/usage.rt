@@ -28,27 +28,30 @@ COMMAND
                        the record's magic, LEN the area's bytes, up to 65535.
   raw MAGIC LEN -s HEX saves an area into all three copies, and prints nothing. HEX is two
                        hexadecimal digits a byte.
-  state -i FILE [-n NAME] [-k FILE] [-s VAR=VALUE] [-g VAR] [-d] [--dump-shell]
+  state -i FILE [-n NAME] [-k FILE] [--old-key FILE] [-s VAR=VALUE] [-g VAR] [-d] [--dump-shell]
                        reads the devicetree FILE, a source or a blob, and loads the state of the
                        name NAME, or else the board's. Gives all variables of -s their values,
                        and saves once where that changed one. Then prints what is asked for, in
-                       the order of the options. All but -i, -n and -k may come as often as
-                       wanted.
+                       the order of the options. Those of -s and -g, and -d and --dump-shell,
+                       may come as often as wanted.
      -i, --input FILE  the devicetree, up to 1048576 bytes
      -n, --name NAME   an alias of a state's node, or a state's node
      -k FILE           the key, two hexadecimal digits a byte. It is read only where the state's
                        records stand under one.
+     --old-key FILE    the key that is being given up. Records that pass under it alone pass
+                       too, and a load writes them anew under that of -k. It is read where -k
+                       is, and after it.
      -s, --set VAR=VALUE  gives the variable this value
      -g, --get VAR     prints the variable's value
      -d, --dump        prints VAR=VALUE for each variable
      --dump-shell      prints each variable as a shell's assignment to NAME_VAR, with _ for each
                        dot
-  mark-good -i FILE -c FILE [-n NAME] [-k FILE]
+  mark-good -i FILE -c FILE [-n NAME] [-k FILE] [--old-key FILE]
                        reads the devicetree as `state` does, and bootchooser's settings. Gives
                        the target that was chosen last its default attempts, and saves where
                        that changed them. Prints `good` with its name and attempts.
      -c FILE           the settings, up to 1048576 bytes
-  boot -i FILE -c FILE [-n NAME] [-k FILE] [--cause WORD]
+  boot -i FILE -c FILE [-n NAME] [-k FILE] [--old-key FILE] [--cause WORD]
                        reads both as `mark-good` does, and the entry of each target. Loads the
                        state, and resets what the settings say. Takes the best target, spends
                        one of its attempts, saves that, and starts the target: DEVICE.plan,
@@ -56,13 +59,13 @@ COMMAND
                        attempts left, and the rounds tried.
      --cause WORD      why the machine starts: power-on, reset or other, which it is without the
                        option
-  shell -i FILE -c FILE -x FILE [-n NAME] [-k FILE] [--cause WORD]
+  shell -i FILE -c FILE -x FILE [-n NAME] [-k FILE] [--old-key FILE] [--cause WORD]
                        reads what `boot` reads, and the script FILE of -x. Loads the state and
                        runs the script, which may set variables, save, mark the last target
                        good, and boot. A start ends it, and DEVICE.plan has its plan, as after a
                        boot. Prints what the script sends.
      -x FILE           the script, up to 65536 bytes
-  install -i FILE -c FILE -t TARGET -p LABEL -f IMAGE --sha256 HEX [-n NAME] [-k FILE]
+  install -i FILE -c FILE -t TARGET -p LABEL -f IMAGE --sha256 HEX [-n NAME] [-k FILE] [--old-key FILE]
                        reads what `mark-good` reads, and the image, whose SHA-256 has to be HEX.
                        Disables the target and saves that, writes the image to the slot, enables
                        the target with its default priority and attempts, and saves that.
@@ -77,12 +80,17 @@ COMMAND
   verify -i FILE -p LABEL -f IMAGE [-n NAME]
                        compares the slot with the image, and loads nothing. Prints `same`, or
                        `differs` and the first byte that differs, from 0.
-  history -i FILE [-n NAME] [-k FILE]
+  history -i FILE [-n NAME] [-k FILE] [--old-key FILE]
                        reads the devicetree as `state` does, and what the copies' regions still
                        hold. Prints for each copy how many areas pass there, and then each
                        area's variables, oldest first. A log may hold many, other storage one.
                        It changes nothing of the device, and doesn't say that an older area was
                        ever acknowledged.
+  rekey -i FILE -k FILE --old-key FILE [-n NAME]
+                       reads the devicetree and both keys as `state` does, and loads the state.
+                       So each copy that passes under the old key alone is written anew, and
+                       nothing is saved. Prints `rekey live`, how many copies pass, `old`, and
+                       how many of them pass under the old key alone.
   menu --dir DIR       prints a line for each boot entry of the folder DIR: its file's name, a
                        space and its title. Where the title is empty, `linux` stands in its
                        place. The first is the one that starts a target whose setting names the
@@ -123,8 +131,8 @@ STATUS
   14 SinkFault   the output can't be written
   15 ScriptFailed  the script ended with a status other than 0, which the line has
   16 StepLimit   the script has more than 10000 commands and rounds of loops
-  17 BadKey      the state's records stand under a key, and -k is missing or its FILE holds
-                 none. The line has the cause.
+  17 BadKey      the state's records stand under a key, and -k is missing, or its FILE or that
+                 of --old-key holds none. The line has the cause.
   18 NoGood      no target was chosen last. The line has last_chosen.
   20 NoMemory    memory was refused
   22 BadTarget   the settings have no such target. The line has its name.

@@ -29,7 +29,7 @@ fn begins(rt: &impl Abort, area: &[u8], bytes: &[u8]) {
 
 // A record passes as these bytes.
 fn passes_as(rt: &impl Abort, alloc: Global, record: &[u8], bytes: &[u8]) -> Result<(), NoMemory> {
-    let raw = Raw::of(0x1234_5678, None);
+    let raw = Raw::of(0x1234_5678, None, None);
     let mut area = long_area(alloc, &raw)?;
     let passed = Some(Passed {
         len: bytes.len(),
@@ -42,7 +42,7 @@ fn passes_as(rt: &impl Abort, alloc: Global, record: &[u8], bytes: &[u8]) -> Res
 
 #[test]
 fn the_worked_record_passes(rt: HostRuntime) -> Result<(), Fail> {
-    let raw = Raw::of(0x1234_5678, None);
+    let raw = Raw::of(0x1234_5678, None, None);
     assert_eq!(rt; raw.area_len(), 65_535);
     assert_eq!(rt; raw.length(9), 25);
     assert_eq!(rt; raw.reach(), 65_551);
@@ -64,7 +64,7 @@ fn a_record_passes_as_long_as_its_header_says(rt: HostRuntime) -> Result<(), Fai
 
 #[test]
 fn the_longest_record_passes(rt: HostRuntime) -> Result<(), Fail> {
-    let raw = Raw::of(0x1234_5678, None);
+    let raw = Raw::of(0x1234_5678, None, None);
     let mut area = long_area(rt.alloc(), &raw)?;
     let mut record = vec![in rt.alloc(); 0u8; raw.length(raw.area_len())]?;
     raw.pack(&area, &mut record);
@@ -79,7 +79,7 @@ fn the_longest_record_passes(rt: HostRuntime) -> Result<(), Fail> {
 // Each check holds, but of the first 4 bytes, where the header says 9.
 #[test]
 fn under_another_length_nothing_passes(rt: HostRuntime) -> Result<(), Fail> {
-    let raw = Raw::of(0x1234_5678, None);
+    let raw = Raw::of(0x1234_5678, None, None);
     let mut area = long_area(rt.alloc(), &raw)?;
     let record = *b"\x78\x56\x34\x12\x00\x00\x09\x00\xa3\xe0\xe3\x9b\xd7\xb3\x0b\xe9123456789";
     assert_eq!(rt; raw.check(&record, &mut area), None);
@@ -88,7 +88,7 @@ fn under_another_length_nothing_passes(rt: HostRuntime) -> Result<(), Fail> {
 
 // What the worked record passes as where records stand in so many bytes.
 fn passes_within(alloc: Global, room: u32) -> Result<Option<Passed>, NoMemory> {
-    let raw = Raw::within(0x1234_5678, None, room);
+    let raw = Raw::within(0x1234_5678, None, None, room);
     let mut area = long_area(alloc, &raw)?;
     Ok(raw.check(&RECORD, &mut area))
 }
@@ -103,11 +103,11 @@ fn an_area_passes_where_its_record_has_room(rt: HostRuntime) -> Result<(), Fail>
 
 #[test]
 fn the_memory_for_an_area_is_no_longer_than_its_room(rt: HostRuntime) {
-    assert_eq!(rt; Raw::within(0x1234_5678, None, 56).area_len(), 40);
-    assert_eq!(rt; Raw::within(0x1234_5678, None, 15).area_len(), 0);
-    assert_eq!(rt; Raw::within(0x1234_5678, None, 65_551).area_len(), 65_535);
+    assert_eq!(rt; Raw::within(0x1234_5678, None, None, 56).area_len(), 40);
+    assert_eq!(rt; Raw::within(0x1234_5678, None, None, 15).area_len(), 0);
+    assert_eq!(rt; Raw::within(0x1234_5678, None, None, 65_551).area_len(), 65_535);
     assert_eq!(rt;
-        Raw::within(0x1234_5678, None, 1_048_576).area_len(),
+        Raw::within(0x1234_5678, None, None, 1_048_576).area_len(),
         65_535
     );
 }
@@ -115,17 +115,17 @@ fn the_memory_for_an_area_is_no_longer_than_its_room(rt: HostRuntime) {
 #[test]
 fn the_worked_area_is_packed(rt: HostRuntime) {
     let mut out = [0xFFu8; 25];
-    Raw::of(0x1234_5678, None).pack(b"123456789", &mut out);
+    Raw::of(0x1234_5678, None, None).pack(b"123456789", &mut out);
     assert_eq!(rt; out, RECORD);
 }
 
 #[test]
 fn damaged_records_pass_nothing(rt: HostRuntime) -> Result<(), Fail> {
-    let raw = Raw::of(0x1234_5678, None);
+    let raw = Raw::of(0x1234_5678, None, None);
     let mut area = long_area(rt.alloc(), &raw)?;
     each_byte_counts(&rt, &raw, &mut area);
     assert_eq!(rt; raw.check(&RECORD[..24], &mut area), None);
-    let other = Raw::of(0x1234_5679, None);
+    let other = Raw::of(0x1234_5679, None, None);
     let mut area = long_area(rt.alloc(), &other)?;
     assert_eq!(rt; other.check(&RECORD, &mut area), None);
     Ok(())
@@ -155,7 +155,7 @@ fn keyed_record() -> [u8; 57] {
 // Whether bytes pass as the worked area under a key, which is spelt in hexadecimal.
 fn passes_under(alloc: Global, key: &[u8], bytes: &[u8]) -> Result<bool, Fail> {
     let key = Key::from_hex(key).ok().ok_or("a key")?;
-    let raw = Raw::of(0x1234_5678, Some(key));
+    let raw = Raw::of(0x1234_5678, Some(key), None);
     let mut area = long_area(alloc, &raw)?;
     Ok(raw.check(bytes, &mut area) == PASSED && area.starts_with(b"123456789"))
 }
@@ -210,7 +210,7 @@ fn passes_by(rt: &impl Abort, raw: &Raw, size: usize, area: &mut [u8])
 #[test]
 fn pieces_of_any_length_give_the_same(rt: HostRuntime) -> Result<(), Fail> {
     let key = Key::from_hex(b"4a656665").ok().ok_or("a key")?;
-    let raw = Raw::of(0x1234_5678, Some(key));
+    let raw = Raw::of(0x1234_5678, Some(key), None);
     let mut area = long_area(rt.alloc(), &raw)?;
     passes_in_each_size(&rt, &raw, &mut area);
     Ok(())
@@ -235,11 +235,64 @@ fn a_code_with_any_bit_turned_passes_nothing(rt: HostRuntime) -> Result<(), Fail
     Ok(())
 }
 
+// What bytes pass as while the key `Jefe` is changed to the byte 0, or the other way round.
+fn passes_under_two(
+    alloc: Global,
+    key: &[u8],
+    old: &[u8],
+    bytes: &[u8],
+) -> Result<Option<Passed>, Fail> {
+    let key = Key::from_hex(key).ok().ok_or("a key")?;
+    let old = Key::from_hex(old).ok().ok_or("an old key")?;
+    let raw = Raw::of(0x1234_5678, Some(key), Some(old));
+    let mut area = long_area(alloc, &raw)?;
+    Ok(raw.check(bytes, &mut area))
+}
+
+#[test]
+fn under_two_keys_a_record_of_either_passes(rt: HostRuntime) -> Result<(), Fail> {
+    let record = keyed_record();
+    let old = Some(Passed { len: 9, old: true });
+    assert_eq!(rt;
+        passes_under_two(rt.alloc(), b"4a656665", b"00", &record)?,
+        PASSED
+    );
+    assert_eq!(rt;
+        passes_under_two(rt.alloc(), b"00", b"4a656665", &record)?,
+        old
+    );
+    Ok(())
+}
+
+#[test]
+fn under_the_same_key_twice_nothing_is_old(rt: HostRuntime) -> Result<(), Fail> {
+    let record = keyed_record();
+    assert_eq!(rt;
+        passes_under_two(rt.alloc(), b"4a656665", b"4a656665", &record)?,
+        PASSED
+    );
+    Ok(())
+}
+
+#[test]
+fn a_record_of_a_third_key_passes_under_neither(rt: HostRuntime) -> Result<(), Fail> {
+    let record = keyed_record();
+    assert_eq!(rt;
+        passes_under_two(rt.alloc(), b"4a656666", b"00", &record)?,
+        None
+    );
+    assert_eq!(rt;
+        passes_under_two(rt.alloc(), b"4a656666", b"00", &RECORD)?,
+        None
+    );
+    Ok(())
+}
+
 #[test]
 fn the_worked_area_is_packed_under_a_key(rt: HostRuntime) {
     let mut out = [0xFFu8; 57];
     if let Ok(key) = Key::from_hex(b"4a656665") {
-        let raw = Raw::of(0x1234_5678, Some(key));
+        let raw = Raw::of(0x1234_5678, Some(key), None);
         assert_eq!(rt; raw.length(9), 57);
         raw.pack(b"123456789", &mut out);
     }

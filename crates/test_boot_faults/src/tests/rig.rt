@@ -106,7 +106,7 @@ fn mount(alloc: Global, layout: Layout) -> Result<State, NoMemory>
     ensures vars { IfOk result (λ state. (laid_of state).vars ≡ layout.vars) }
     ensures fresh { IfOk result FitsEveryDevice }
 {
-    State::mount(alloc, layout, None)
+    State::mount(alloc, layout, None, None)
 }
 
 // Files in which both systems have this entry.

@@ -97,6 +97,12 @@ fn states() -> &'static [(&'static str, usize)] {
         ("mark-good -k a -k a", 3),
         ("mark-good -i a", 3),
         ("mark-good -i a -c b -d", 5),
+        ("state -i a --old-key b --old-key b", 5),
+        ("state -i a --old-key=b", 3),
+        ("rekey -i a -k b", 5),
+        ("rekey -i a --old-key b", 5),
+        ("rekey -i a -k b --old-key c -d", 7),
+        ("rekey -i a -k b --old-key", 6),
     ]
 }
 

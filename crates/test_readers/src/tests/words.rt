@@ -4,7 +4,7 @@ use super::lists::words_in;
 use bb_base::Text;
 use bb_words::{
     Action, BootCommand, CauseWord, Command, MarkGoodCommand, MenuCommand, RawAction, RawCommand,
-    ShellCommand, StateCommand, read_words,
+    RekeyCommand, ShellCommand, StateCommand, read_words,
 };
 use std::alloc::Global;
 use std::process::Abort;
@@ -50,6 +50,13 @@ fn boot(alloc: Global, line: &str) -> Result<BootCommand, Fail> {
 fn shell(alloc: Global, line: &str) -> Result<ShellCommand, Fail> {
     match command(alloc, line)? {
         Command::Shell(shell) => Ok(shell),
+        _ => Err(Fail::from("another command")),
+    }
+}
+
+fn rekey(alloc: Global, line: &str) -> Result<RekeyCommand, Fail> {
+    match command(alloc, line)? {
+        Command::Rekey(rekey) => Ok(rekey),
         _ => Err(Fail::from("another command")),
     }
 }
@@ -163,6 +170,19 @@ fn a_cause_is_said(rt: HostRuntime) -> Result<(), Fail> {
     says(&rt, &boot.described.name, "--cause");
     says(&rt, &boot.described.key, "key.hex");
     same(&rt, boot.cause, CauseWord::PowerOn);
+    Ok(())
+}
+
+#[test]
+fn both_keys_are_named(rt: HostRuntime) -> Result<(), Fail> {
+    let rekey = rekey(
+        rt.alloc(),
+        "rekey --old-key -k -k new.hex -n a --input b.dts",
+    )?;
+    has_text(&rt, &rekey.described.file, "b.dts");
+    says(&rt, &rekey.described.name, "a");
+    says(&rt, &rekey.described.key, "new.hex");
+    says(&rt, &rekey.described.old_key, "-k");
     Ok(())
 }
 

@@ -90,7 +90,7 @@ fn key_plays(
 {
     let key = key(hex)?;
     let layout = under_key(alloc)?;
-    mounted_plays(rt, alloc, layout, key, board, steps)
+    mounted_plays(rt, alloc, layout, key, None, board, steps)
 }
 
 // The same on a device of these bytes.
@@ -179,4 +179,63 @@ fn saves_and_loads(rt: &impl Abort, alloc: Global, board: &mut MemBoard) -> Resu
 fn a_record_without_a_key_passes_nothing_under_one(rt: HostRuntime) -> Result<(), Fail> {
     let mut board = blank(rt.alloc())?;
     saves_and_loads(&rt, rt.alloc(), &mut board)
+}
+
+// ---- a change of key
+
+// The record of the value 7 under the key `00`.
+fn new_copy() -> [u8; COPY_LEN] {
+    *b"\xf3\xfd\x54\x23\x31\x00\x00\x00\x01\x00\x00\x00\x00\x00\x01\x00\
+      \x2e\x7a\x66\x4c\xb4\xad\x6a\x7e\x07\xd4\x17\x35\x89\xaf\x96\x6e\
+      \xc0\x97\xaa\x03\x11\xa2\xec\x1f\x01\x54\xf4\x5b\x34\xdc\xf2\xb0\
+      \x9d\xbc\xb5\x53\x94\x26\x49\x79\xa1"
+}
+
+// A state under the key `00`, with the old one `4a656665`, plays these steps on a device of these
+// bytes.
+fn changes_from(
+    rt: &impl Abort,
+    alloc: Global,
+    before: [u8; 192],
+    steps: &[Step],
+) -> Result<(), Fail> {
+    let mut board = board(alloc, IN_PLACE, &before)?;
+    let new = key(b"00")?;
+    let old = key(b"4a656665")?;
+    let layout = under_key(alloc)?;
+    mounted_plays(rt, alloc, layout, new, old, &mut board, steps)
+}
+
+// All copies pass one byte then, and none is old.
+fn all_new() -> Loaded {
+    Loaded::Copy {
+        used: 0,
+        live: 3,
+        len: 1,
+        old: 0,
+    }
+}
+
+#[test]
+fn old_records_are_written_under_the_new_key(rt: HostRuntime) -> Result<(), Fail> {
+    let new = strides(new_copy(), new_copy(), new_copy());
+    changes_from(
+        &rt,
+        rt.alloc(),
+        whole(),
+        &[Loads(all_new()), Has(7), Holds(new)],
+    )
+}
+
+// A copy under each key, and one that passes nothing.
+#[test]
+fn one_copy_under_each_key_gives_the_first(rt: HostRuntime) -> Result<(), Fail> {
+    let new = strides(new_copy(), new_copy(), new_copy());
+    let mixed = strides(good_copy(), new_copy(), decayed_copy());
+    changes_from(
+        &rt,
+        rt.alloc(),
+        mixed,
+        &[Loads(all_new()), Has(7), Holds(new)],
+    )
 }

@@ -42,7 +42,7 @@ fn log_plays(
     requires whole { IsDevice (device_of board.old) }
 {
     let layout = layout(alloc, b"", whole_device(), LOGS)?;
-    mounted_plays(rt, alloc, layout, None, board, steps)
+    mounted_plays(rt, alloc, layout, None, None, board, steps)
 }
 
 // The load reads each of the 64 blank pages of each block.

@@ -127,15 +127,19 @@ pub fn blank(alloc: Global) -> Result<MemBoard, NoMemory>
     board(alloc, IN_PLACE, &[0xff; 192])
 }
 
-/// The state of a layout, under a key where its records are kept under one.
-fn mount(alloc: Global, layout: Layout, key: Option<Key>) -> Result<State, Fail>
+/// The state of a layout, under a key where its records are kept under one, and an old one beside
+/// it.
+fn mount(alloc: Global, layout: Layout, key: Option<Key>, old: Option<Key>) -> Result<State, Fail>
     ensures geometry { IfOk result (λ state. (laid_of state).geometry ≡ layout.geometry) }
     ensures fresh { IfOk result FitsEveryDevice }
 {
     if key.is_some() != layout.format.takes_key() {
         return Err(Fail::from("a key too many, or none"));
     }
-    Ok(State::mount(alloc, layout, key)?)
+    if old.is_some() && !layout.format.takes_key() {
+        return Err(Fail::from("an old key too many"));
+    }
+    Ok(State::mount(alloc, layout, key, old)?)
 }
 
 /// A state of this layout is mounted anew, and plays these steps.
@@ -144,6 +148,7 @@ pub fn mounted_plays(
     alloc: Global,
     layout: Layout,
     key: Option<Key>,
+    old: Option<Key>,
     board: &mut MemBoard,
     steps: &[Step],
 ) -> Result<(), Fail>
@@ -152,7 +157,7 @@ pub fn mounted_plays(
     ensures geometry { board.new.geometry ≡ board.old.geometry }
     ensures whole { IsDevice (device_of board.new) }
 {
-    let mut state = mount(alloc, layout, key)?;
+    let mut state = mount(alloc, layout, key, old)?;
     plays(rt, &mut state, board, steps);
     Ok(())
 }
@@ -170,7 +175,7 @@ pub fn plain_plays(
     ensures whole { IsDevice (device_of board.new) }
 {
     let layout = plain(alloc)?;
-    mounted_plays(rt, alloc, layout, None, board, steps)
+    mounted_plays(rt, alloc, layout, None, None, board, steps)
 }
 
 /// Such a state on a blank board.

@@ -10,10 +10,11 @@ use Rattle.bb_copies.specs.Buckets.{HaveRoom, IsFoundWithin, kinds_of}
 use Rattle.bb_copies.specs.declared.answers.Loaded.TheVariants.{Copy}
 use Rattle.bb_copies.specs.Erasing.{IsBounded}
 use Rattle.bb_copies.specs.declared.look.FirstCopy.{FirstCopy}
-use Rattle.bb_copies.specs.Looking.{FindsBelow, IsFirst, copy_of, front_kept}
+use Rattle.bb_copies.specs.Looking.{FindsBelow, FirstAges, IsFirst, copy_of, front_kept}
 use Rattle.bb_copies.specs.Passing.{FitsFront}
-use Rattle.bb_copies.specs.Refreshing.{AllHeld, AllWritten, IsFirstMarked, IsStuckAt, KeepsMarked, PassesAt, Refreshes}
+use Rattle.bb_copies.specs.Refreshing.{AllDated, AllHeld, AllWritten, IsFirstMarked, IsStuckAt, KeepsMarked, KnowsAges, PassesAt, Refreshes}
 use Rattle.bb_copies.specs.Saving.{SparesUsed}
+use Rattle.bb_copies.proofs.LastAges.{known_ages, load_ages}
 use Rattle.bb_copies.proofs.Lasts.{first_passes, fresh_pass, never_spared}
 use Rattle.bb_copies.proofs.Touched.{tried_behind}
 use Rattle.bb_copies.proofs.Erased.{read_erases}
@@ -32,6 +33,7 @@ returns-in_default-clause-load g c =
       runs = unchanged_runs form kinds from mid k.quiet.told (keeps_of_quiet _ _ k.quiet) k.quiet.later k.quiet.whole;
       gives = tt;
       says = tt;
+      ages = tt;
       exact = tt;
       erases = tt;
       fails = read_fault from mid (keeps_of_quiet _ _ k.quiet).content k.quiet.told c.in_default.ensures.faults c.in_default.ensures.read_faults;
@@ -54,6 +56,7 @@ returns-in_default-found-clause-load g c =
           none_found form kinds bound good from mid many (keeps_of_quiet _ _ k.quiet).content k.quiet.told c.in-Ok.ensures.faults c.in-Ok.ensures.read_faults
           (λ image e. subst (λ (o : Option FirstCopy). FindsBelow form from.geometry.page kinds bound (front_kept o area) good image (copy_of o)) c.in_default-found.is (c.in-Ok.ensures.done image e));
       says = refl;
+      ages = tt;
       exact = tt;
       erases = read_erases from mid k.quiet.told;
       fails = tt;
@@ -104,6 +107,10 @@ returns-in-Ok-settle_all-clause-load g c =
     let low : used < length kinds = omega (arith, inside, many) in
     let here : PassesAt form kinds area used mid = first_passes form kinds area good bound used mid (first_again form kinds kinds area good bound bound used from mid refl refl (keeps_of_quiet _ _ k.quiet) first) in
     let run : Refreshes form kinds area mid to = subst (λ (ks : List BucketKind). Refreshes form ks area mid to) k.kinds f.refreshes in
+    let aged : List Bool = c.settle_all.new.aged.items in
+    let unaged : List Bool = c.clear.new.good.items in
+    let ages : ForSome (content from) (λ image. FirstAges form from.geometry.page kinds image (Some c.in-Some.first)) =
+    λ image e. subst (FirstAges form from.geometry.page kinds image) c.in-Some.is (c.in-Ok.ensures.ages image e) in
     let all : AllHeld form kinds area now mid to = subst (λ (ks : List BucketKind). PassesAt form ks area used mid → AllHeld form ks area now mid to) k.kinds c.in-Ok-settle_all.ensures.held here in
     record {
       runs =
@@ -118,9 +125,13 @@ returns-in-Ok-settle_all-clause-load g c =
           (subst (λ (r : List ℕ). IsBounded kinds r mid to) packed (subst (λ (ks : List BucketKind). IsBounded ks rec mid to) k.kinds f.bounds)));
       says =
           let fits = subst (λ (o : Option FirstCopy). IfSome o (λ first. FitsFront form first.len out)) c.in-Some.is c.in-Ok.ensures.fits in
-          record { len = length-take-le c.in-Some.first.len out fits.inside; old = refl; fits = fits.fits };
+          record { len = length-take-le c.in-Some.first.len out fits.inside; fits = fits.fits };
+      ages =
+          load_ages form kinds aged c.count_marked.result from mid to (f.ages ∙ c.clear.ensures.len ∙ c.requires.ages ∙ many) c.count_marked.ensures k.quiet.later
+          (subst (λ (ks : List BucketKind). KnowsAges form ks good unaged used c.in-Some.first.old mid → AllDated form ks aged mid to) k.kinds c.in-Ok-settle_all.ensures.aged
+          (known_ages form kinds area good unaged bound c.in-Some.first from mid many (keeps_of_quiet _ _ k.quiet) c.clear.ensures.unmarked first ages));
       exact =
-          loads_exactly form kinds area rec good bound used from mid to (Copy c.tell-taken.result.used c.tell-taken.result.live c.in-Some.first.len 0) many packed k.quiet.later (keeps_of_quiet _ _ k.quiet) first
+          loads_exactly form kinds area rec good bound used from mid to (Copy c.tell-taken.result.used c.tell-taken.result.live c.in-Some.first.len c.count_marked.result) many packed k.quiet.later (keeps_of_quiet _ _ k.quiet) first
           (λ quiet. subst (λ (ks : List BucketKind). KeepsMarked ks good mid to) k.kinds f.kept)
           (λ quiet. subst (λ (ks : List BucketKind). AllWritten ks rec good mid to) k.kinds (f.exact quiet));
       erases =
@@ -160,6 +171,7 @@ returns-in-Err-clause-load g c =
           (never_spared form kinds area used mid to low here (subst (λ (ks : List BucketKind). SparesUsed form ks (Some used) mid to) k.kinds f.spares));
       gives = tt;
       says = tt;
+      ages = tt;
       exact = tt;
       erases = tt;
       fails =
@@ -222,6 +234,13 @@ settle_all-requires-clause-room g c =
 
 pub settle_all-requires-clause-marks : goal.settle_all-requires-clause-marks
 settle_all-requires-clause-marks g c = grind (arith, common_steps)
+
+pub settle_all-requires-clause-ages : goal.settle_all-requires-clause-ages
+settle_all-requires-clause-ages g c =
+    let old = c.args.buckets.now.items in
+    let new = c.look_over.new.buckets.items in
+    let again : length new ≡ length old = sym (length-map new _) ∙ ap length c.look_over.ensures.kinds ∙ length-map old _ in
+    c.clear.ensures.len ∙ c.requires.ages ∙ sym again
 
 pub settle_all-requires-clause-many : goal.settle_all-requires-clause-many
 settle_all-requires-clause-many g c = grind (arith, common_steps)

@@ -10,7 +10,7 @@ use Rattle.bb_copies.specs.declared.read.PassingCopy.{PassingCopy}
 use Rattle.bb_copies.specs.Looking.{FindsBelow, IsFirstNow, area_by, copy_of, front_kept, good_by}
 use Rattle.bb_copies.specs.Passing.{FitsFront}
 use Rattle.bb_copies.proofs.Ends.{whole_slice}
-use Rattle.bb_copies.proofs.Finding.{finds_step, first_front, first_number, inside_step, known_inside, known_parts, known_step, reading_from, some_weaker}
+use Rattle.bb_copies.proofs.Finding.{ages_step, finds_step, first_front, first_number, inside_step, known_inside, known_parts, known_step, reading_from, some_weaker}
 use Rattle.bb_copies.proofs.Placed.{placed_all}
 use Rattle.bb_copies.proofs.look.look_over.Goals as goal
 
@@ -47,6 +47,9 @@ loop-copy-preserved g c =
       finds = λ image e.
           finds_step form from.geometry.page kinds copy out (front_kept used area) (front_kept now new) good c.compare-first.result.1 passed image (copy_of used) (copy_of now)
           (first_number copy out passed area new used now step) is_area is_good inside (i.finds image e)
+          (reading_from form kinds (kinds_of g.B.Bucket.holding c.loop-copy.buckets.items) copy image out passed from mid (keeps_of_quiet _ _ i.quiet) i.kinds (r.done image ((keeps_of_quiet _ _ i.quiet).content ∙ e)));
+      ages = λ image e.
+          ages_step form from.geometry.page kinds copy out passed area new image used now step (i.ages image e)
           (reading_from form kinds (kinds_of g.B.Bucket.holding c.loop-copy.buckets.items) copy image out passed from mid (keeps_of_quiet _ _ i.quiet) i.kinds (r.done image ((keeps_of_quiet _ _ i.quiet).content ∙ e)));
       inside = inside_step copy passed used now (first_number copy out passed area new used now step) i.inside;
       known =

@@ -3,7 +3,7 @@ use Rattle.std.specs.Option.{ForSome}
 use Rattle.bb_flash.specs.Device.{content}
 use Rattle.bb_bucket.specs.Calls.{IsQuiet}
 use Rattle.bb_copies.specs.Buckets.{AllAgree, HasMemory, kinds_of}
-use Rattle.bb_copies.specs.Looking.{FindsBelow, copy_of, front_kept}
+use Rattle.bb_copies.specs.Looking.{FindsBelow, FirstAges, copy_of, front_kept}
 use Rattle.bb_copies.specs.Placing.{IsPlacedAt}
 use Rattle.bb_copies.proofs.Finding.{KnownFirst}
 use Rattle.bb_copies.proofs.look.look_over.Given as goal
@@ -16,6 +16,8 @@ invariant-loop-copy g l =
     record {
       finds :
           ForSome (content from) (λ image. FindsBelow form from.geometry.page (kinds_of g.B.Bucket.holding l.fn.buckets.items) l.copy (front_kept l.used l.area) l.good.items image (copy_of l.used));
+      ages :
+          ForSome (content from) (λ image. FirstAges form from.geometry.page (kinds_of g.B.Bucket.holding l.fn.buckets.items) image l.used);
       inside : IfSome l.used (λ first. first.copy < l.copy);
       known : KnownFirst form (kinds_of g.B.Bucket.holding l.fn.buckets.items) l.used l.area;
       quiet : IsQuiet from now;

@@ -4,7 +4,7 @@ use Rattle.bb_flash.specs.declared.geometry.Geometry.{Geometry}
 use Rattle.bb_bucket.specs.Calls.{candidate_in}
 use Rattle.bb_bucket.specs.Kind.{BucketKind}
 use Rattle.bb_bucket.proofs.Quiet.{keeps_of_quiet, quiet_joined}
-use Rattle.bb_copies.proofs.Pieced.{fed_next, found_len, pieces_passed, whole_fits, whole_passed, whole_room}
+use Rattle.bb_copies.proofs.Pieced.{fed_next, found_len, pieces_passed, whole_age, whole_fits, whole_passed, whole_room}
 use Rattle.bb_copies.proofs.read.check_found.Goals as goal
 
 pub loop-from-preserved : goal.loop-from-preserved
@@ -44,6 +44,17 @@ returns-clause-done g c = λ image told bytes is.
     let whole = found_len _ c.args.len bytes _ c.requires.found (c.requires.agreed.found image told) is in
     whole_passed form bytes c.loop-from.area c.end.result
     (pieces_passed form bytes i.fed.0 c.loop-from.area c.loop-from.from c.end.result laws
+    (omega arith) (i.fed.2 image told bytes is) (c.end.ensures i.fed.0 i.fed.1))
+
+pub returns-clause-age : goal.returns-clause-age
+returns-clause-age g c = λ image told.
+    let i = c.loop-from.invariant in
+    let form = g.M.Format.form c.args.format.now in
+    let laws = g.met.M.Format.laws c.args.format.now in
+    whole_age form (candidate_in (g.B.Bucket.holding c.args.bucket.now).kind (g.F.Flash.device c.args.flash.now).geometry.page image) c.loop-from.area c.end.result
+    (λ bytes is.
+    let whole = found_len _ c.args.len bytes _ c.requires.found (c.requires.agreed.found image told) is in
+    pieces_passed form bytes i.fed.0 c.loop-from.area c.loop-from.from c.end.result laws
     (omega arith) (i.fed.2 image told bytes is) (c.end.ensures i.fed.0 i.fed.1))
 
 pub returns-clause-fits : goal.returns-clause-fits

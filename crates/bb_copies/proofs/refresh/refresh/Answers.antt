@@ -6,8 +6,9 @@ use Rattle.bb_base.specs.Form.{Form}
 use Rattle.bb_flash.specs.Device.{Device}
 use Rattle.bb_bucket.specs.Kind.{BucketKind}
 use Rattle.bb_copies.specs.Buckets.{kinds_of}
-use Rattle.bb_copies.specs.Refreshing.{IsBoundedAt, IsSettledAt, IsStuckAt, IsWrittenAt, LeavesOthers, Refreshes}
+use Rattle.bb_copies.specs.Refreshing.{IsBoundedAt, IsSettledAt, IsStuckAt, IsWrittenAt, LeavesOthers, MarksAge, Refreshes}
 use Rattle.bb_copies.proofs.Below.{RefreshedBelow, all_bounded, all_settled, all_written, each_more, keeps_marked, none_refreshed, settled_more, skipped, stuck_bounded, stuck_earlier, stuck_keeps, stuck_rose}
+use Rattle.bb_copies.proofs.Dating.{all_dated_below, none_dated, settled_dated, skipped_dated}
 use Rattle.bb_copies.proofs.Placed.{none_placed, settled_placed, skipped_placed, unmarked_placed}
 use Rattle.bb_copies.proofs.Runs.{refreshes_joined, undisturbed_first, undisturbed_second}
 use Rattle.bb_copies.proofs.refresh.refresh.Goals as goal
@@ -15,6 +16,8 @@ use Rattle.bb_copies.proofs.refresh.refresh.Goals as goal
 pub loop-copy-init : goal.loop-copy-init
 loop-copy-init g c = record {
   below = none_refreshed (g.M.Format.form c.args.format.now) (kinds_of g.B.Bucket.holding c.args.buckets.now.items) c.args.area.now c.args.rec.now c.args.good.now.items (g.F.Flash.device c.args.flash.now) c.requires.whole;
+  aged = none_dated (g.M.Format.form c.args.format.now) (kinds_of g.B.Bucket.holding c.args.buckets.now.items) c.args.good.now.items c.args.good.now.items c.args.aged.now.items (g.F.Flash.device c.args.flash.now);
+  ages = refl;
   kinds = refl;
   placed = none_placed g.B.Bucket.holding c.args.good.now.items c.args.buckets.now.items;
   reads = λ quiet. refl;
@@ -31,6 +34,10 @@ loop-copy-preserved-then-index g c =
     let first = sym (i.below.same c.loop-copy.copy (inr (omega arith))) ∙ mark in
     record {
       below = skipped (g.M.Format.form c.args.format.now) (kinds_of g.B.Bucket.holding c.args.buckets.now.items) c.args.area.now c.args.rec.now c.args.good.now.items c.loop-copy.good.items c.loop-copy.copy (g.F.Flash.device c.args.flash.now) (g.F.Flash.device c.loop-copy.flash) inside mark i.below;
+      aged = λ unaged.
+          skipped_dated (g.M.Format.form c.args.format.now) (kinds_of g.B.Bucket.holding c.args.buckets.now.items) c.args.good.now.items c.loop-copy.good.items c.loop-copy.aged.items c.loop-copy.copy (g.F.Flash.device c.args.flash.now) (g.F.Flash.device c.loop-copy.flash)
+          (omega (arith, i.ages, c.requires.ages, c.len-copy-end.ensures, c.args.buckets.now.ok)) first (i.aged unaged);
+      ages = i.ages;
       kinds = i.kinds;
       placed = skipped_placed g.B.Bucket.holding c.args.good.now.items c.loop-copy.copy c.args.buckets.now.items c.loop-copy.buckets.items first i.placed;
       reads = i.reads;
@@ -119,6 +126,13 @@ loop-copy-preserved g c =
           (λ quiet. subst (λ (ks : List BucketKind). IsWrittenAt ks copy rec mid to) i.kinds (s.exact quiet))
           (subst (λ (ks : List BucketKind). IsBoundedAt ks copy rec mid to) i.kinds s.bounds)
           c.in_ok-good.ensures.read_faults;
+      aged = λ unaged.
+          settled_dated form kinds c.args.good.now.items good c.loop-copy.aged.items c.settle_copy.new.aged.items copy c.in_ok-good.field-0 from mid to
+          (omega (arith, i.ages, c.requires.ages, c.len-copy-end.ensures, c.args.buckets.now.ok)) inside
+          (sym (i.below.same copy (inr (omega arith))) ∙ unmarked) i.below.refreshes.later s.refreshes.later
+          (subst (λ (ks : List BucketKind). LeavesOthers ks copy mid to) i.kinds s.others) (i.aged unaged)
+          (subst (λ (ks : List BucketKind). MarksAge form ks copy c.loop-copy.aged.items c.settle_copy.new.aged.items mid to c.in_ok-good.field-0) i.kinds c.in_ok-good.ensures.aged);
+      ages = s.ages ∙ i.ages;
       kinds = s.kinds ∙ i.kinds;
       placed = settled_placed g.B.Bucket.holding c.args.good.now.items copy c.args.buckets.now.items c.loop-copy.buckets.items c.settle_copy.new.buckets.items i.placed c.in_ok-good.ensures.placed;
       reads = λ quiet. s.reads (undisturbed_second from mid to i.below.refreshes.later quiet) ∙ i.reads (undisturbed_first from mid to s.refreshes.later quiet);
@@ -143,6 +157,25 @@ returns-clause-settled g c =
     let many : length c.loop-copy.good.items ≡ length kinds = i.marks ∙ c.requires.marks ∙ sym (length-map c.args.buckets.now.items _) in
     all_settled form kinds c.args.area.now c.args.rec.now c.args.good.now.items c.loop-copy.good.items from to many
     (subst (λ (n : ℕ). RefreshedBelow form kinds c.args.area.now c.args.rec.now c.args.good.now.items c.loop-copy.good.items n from to) all i.below)
+
+pub returns-clause-aged : goal.returns-clause-aged
+returns-clause-aged g c = λ unaged.
+    let i = c.loop-copy.invariant in
+    let form : Form = g.M.Format.form c.args.format.now in
+    let kinds : List BucketKind = kinds_of g.B.Bucket.holding c.args.buckets.now.items in
+    let from : Device = g.F.Flash.device c.args.flash.now in
+    let to : Device = g.F.Flash.device c.loop-copy.flash in
+    let many : length kinds ≡ length c.args.buckets.now.items = length-map c.args.buckets.now.items _ in
+    all_dated_below form kinds c.args.good.now.items c.loop-copy.good.items c.loop-copy.aged.items c.loop-copy.copy from to
+    (omega (arith, many, c.len-copy-end.ensures, c.args.buckets.now.ok)) (omega (arith, i.ages, c.requires.ages, c.len-copy-end.ensures, c.args.buckets.now.ok)) (i.aged unaged)
+
+pub settle_copy-requires-clause-ages : goal.settle_copy-requires-clause-ages
+settle_copy-requires-clause-ages g c =
+    let i = c.loop-copy.invariant in
+    let old = c.args.buckets.now.items in
+    let now = c.loop-copy.buckets.items in
+    let again : length now ≡ length old = sym (length-map now _) ∙ ap length i.kinds ∙ length-map old _ in
+    i.ages ∙ c.requires.ages ∙ sym again
 
 pub returns-clause-exact : goal.returns-clause-exact
 returns-clause-exact g c =

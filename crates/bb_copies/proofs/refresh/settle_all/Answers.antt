@@ -6,9 +6,10 @@ use Rattle.bb_base.specs.Form.{Form}
 use Rattle.bb_flash.specs.Device.{Device}
 use Rattle.bb_bucket.specs.Kind.{BucketKind}
 use Rattle.bb_copies.specs.Buckets.{kinds_of}
-use Rattle.bb_copies.specs.Refreshing.{AllSettled, IsBoundedAt, IsFirstMarked, IsSettledAt, IsStuckAt, IsWrittenAt, LeavesOthers, MarkedPass, NoOther, Refreshes, is_marked}
+use Rattle.bb_copies.specs.Refreshing.{AllSettled, IsBoundedAt, IsFirstMarked, IsSettledAt, IsStuckAt, IsWrittenAt, LeavesOthers, MarkedPass, MarksAge, NoOther, Refreshes, is_marked}
 use Rattle.bb_copies.proofs.Below.{stuck_earlier, stuck_rose}
 use Rattle.bb_copies.proofs.Held.{bounded_used, held_all, kept_marked, kept_others, none_of_match, quiet_other, set_again, some_of_match, written_fresh, written_others}
+use Rattle.bb_copies.proofs.LastAges.{dated_alone, dated_last, dated_marked}
 use Rattle.bb_copies.proofs.Lasts.{alone, another_spares, last_held, last_passes, last_spares, others_held, spares_joined}
 use Rattle.bb_copies.proofs.Runs.{refreshes_joined, undisturbed_first, undisturbed_second}
 use Rattle.bb_copies.proofs.Touched.{others_tried}
@@ -316,6 +317,71 @@ returns-clause-held g c =
     λ passes.
     last_held form kinds area (set marked last true) good last c.in_ok-good.field-0 from mid to (omega (arith, all, inside)) (done.stays last (get_or-set_same marked last true false within)) r.refreshes.later s.refreshes.later held done others
     (subst (λ (ks : List BucketKind). IsSettledAt form ks area last mid to c.in_ok-good.field-0) r.kinds c.in_ok-good.ensures.settled)
+
+pub returns-then-marked-clause-aged : goal.returns-then-marked-clause-aged
+returns-then-marked-clause-aged g c =
+    let form : Form = g.M.Format.form c.args.format.now in
+    let kinds : List BucketKind = kinds_of g.B.Bucket.holding c.args.buckets.now.items in
+    let marked : List Bool = c.args.good.now.items in
+    let last : ℕ = c.args.last in
+    let from : Device = g.F.Flash.device c.args.flash.now in
+    let mid : Device = g.F.Flash.device c.refresh.new.flash in
+    let within : last < length marked = omega (arith, c.requires.inside, c.requires.marks) in
+    let r = c.refresh.ensures in
+    let mark : is_marked marked last ≡ true = sym (get_or_read marked last _ within c.index-marked.ensures false) ∙ c.if-marked.true in
+    λ knows.
+    dated_marked form kinds (set marked last true) c.refresh.new.good.items c.refresh.new.aged.items from mid r.refreshes.later
+    (λ copy kind e new. knows.others copy kind e (sym (ap (λ (xs : List Bool). is_marked xs copy) (set_again marked last mark)) ∙ new)) r.kept
+    (c.in_ok-refresh.ensures.aged knows.unaged)
+
+pub returns-then-is_none-clause-aged : goal.returns-then-is_none-clause-aged
+returns-then-is_none-clause-aged g c =
+    let form : Form = g.M.Format.form c.args.format.now in
+    let kinds : List BucketKind = kinds_of g.B.Bucket.holding c.args.buckets.now.items in
+    let area : List ℕ = c.args.area.now in
+    let marked : List Bool = c.args.good.now.items in
+    let last : ℕ = c.args.last in
+    let from : Device = g.F.Flash.device c.args.flash.now in
+    let mid : Device = g.F.Flash.device c.refresh.new.flash in
+    let within : last < length marked = omega (arith, c.requires.inside, c.requires.marks) in
+    let good : List Bool = c.refresh.new.good.items in
+    let size = length-set marked last true in
+    let r = c.refresh.ensures in
+    let done : AllSettled form kinds area (set marked last true) good from mid = c.in_ok-refresh.ensures.settled in
+    let found = subst (λ (xs : List Bool). MatchOption c.first_good.result (NoOther xs last) (IsFirstMarked xs last)) c.deref.ensures.value c.first_good.ensures in
+    let none : NoOther good last = none_of_match c.first_good.result (NoOther good last) (IsFirstMarked good last) found (c.is_none.ensures ∙ ap not c.if-is_none.true) in
+    λ knows.
+    dated_alone form kinds marked good c.args.aged.now.items c.refresh.new.aged.items last c.args.last_old from mid
+    (omega (arith, r.ages, c.requires.ages, c.requires.inside)) within (omega (arith, c.requires.many, c.requires.marks, r.marks, size)) r.refreshes.later knows none r.kept done.dead
+    (c.in_ok-refresh.ensures.aged knows.unaged)
+
+pub returns-clause-aged : goal.returns-clause-aged
+returns-clause-aged g c =
+    let form : Form = g.M.Format.form c.args.format.now in
+    let kinds : List BucketKind = kinds_of g.B.Bucket.holding c.args.buckets.now.items in
+    let marked : List Bool = c.args.good.now.items in
+    let last : ℕ = c.args.last in
+    let from : Device = g.F.Flash.device c.args.flash.now in
+    let mid : Device = g.F.Flash.device c.refresh.new.flash in
+    let to : Device = g.F.Flash.device c.settle_copy.new.flash in
+    let within : last < length marked = omega (arith, c.requires.inside, c.requires.marks) in
+    let aged : List Bool = c.refresh.new.aged.items in
+    let after : List Bool = c.settle_copy.new.aged.items in
+    let r = c.refresh.ensures in
+    let s = c.settle_copy.ensures in
+    let others : LeavesOthers kinds last mid to = subst (λ (ks : List BucketKind). LeavesOthers ks last mid to) r.kinds s.others in
+    λ knows.
+    dated_last form kinds marked c.refresh.new.good.items c.args.aged.now.items aged after last c.args.last_old c.in_ok-good.field-0 from mid to
+    (omega (arith, r.ages, c.requires.ages, c.requires.inside)) within r.refreshes.later s.refreshes.later knows r.kept others
+    (c.in_ok-refresh.ensures.aged knows.unaged)
+    (subst (λ (ks : List BucketKind). MarksAge form ks last aged after mid to c.in_ok-good.field-0) r.kinds c.in_ok-good.ensures.aged)
+
+pub settle_copy-requires-clause-ages : goal.settle_copy-requires-clause-ages
+settle_copy-requires-clause-ages g c =
+    let old = c.args.buckets.now.items in
+    let now = c.refresh.new.buckets.items in
+    let again : length now ≡ length old = sym (length-map now _) ∙ ap length c.refresh.ensures.kinds ∙ length-map old _ in
+    c.refresh.ensures.ages ∙ c.requires.ages ∙ sym again
 
 pub returns-then-marked-clause-some : goal.returns-then-marked-clause-some
 returns-then-marked-clause-some g c =

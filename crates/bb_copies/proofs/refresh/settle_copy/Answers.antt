@@ -1,4 +1,4 @@
-use Rattle.std.proofs.Common.{◌≡◌, List, [], ◌∷◌, length, set, IfErr, IfOk, OnOk, sym, subst, refl}
+use Rattle.std.proofs.Common.{◌≡◌, Bool, List, [], ◌∷◌, length, set, IfErr, IfOk, OnOk, sym, subst, refl}
 use Rattle.std.proofs.lemmas.Option.{slice_get_read}
 use Rattle.bb_base.specs.Form.{Form}
 use Rattle.bb_flash.specs.Device.{Device}
@@ -6,11 +6,11 @@ use Rattle.bb_bucket.specs.Kind.{BucketKind}
 use Rattle.bb_copies.specs.Buckets.{kinds_of}
 use Rattle.bb_copies.specs.Erasing.{IsBoundedInSum}
 use Rattle.bb_copies.specs.Placing.{PlacesCopy}
-use Rattle.bb_copies.specs.Refreshing.{IsSettledAt, IsStuckAt}
+use Rattle.bb_copies.specs.Refreshing.{IsSettledAt, IsStuckAt, MarksAge}
 use Rattle.bb_copies.specs.Settling.{IsRepairWritten}
 use Rattle.bb_copies.proofs.Many.{all_kinds, kind_at, set_agrees, set_kinds, settled_others, settled_refreshes}
 use Rattle.bb_copies.proofs.Placed.{answer_ok, set_places}
-use Rattle.bb_copies.proofs.Settled.{at_copy, settled_at, settled_calm, stuck_at}
+use Rattle.bb_copies.proofs.Settled.{at_copy, marks_age, settled_at, settled_calm, stuck_at}
 use Rattle.bb_copies.proofs.refresh.settle_copy.Goals as goal
 
 pub settle-settled-requires-clause-serves : goal.settle-settled-requires-clause-serves
@@ -63,6 +63,18 @@ returns-clause-stuck g c =
     let here = kind_at g.B.Bucket.holding c.args.buckets.now.items c.args.copy _ there in
     subst (λ r. IfErr r (λ at. IsStuckAt form kinds c.args.area.now at from to)) (sym c.answer.ensures)
     (stuck_at form kinds c.args.area.now c.args.rec.now c.args.copy _ from to c.settle-settled.result here c.settle-settled.ensures.ends c.settle-settled.ensures.counts)
+
+pub returns-clause-aged : goal.returns-clause-aged
+returns-clause-aged g c =
+    let form : Form = g.M.Format.form c.args.format.now in
+    let kinds : List BucketKind = kinds_of g.B.Bucket.holding c.args.buckets.now.items in
+    let from : Device = g.F.Flash.device c.args.flash.now in
+    let to : Device = g.F.Flash.device c.settle-settled.new.flash in
+    let aged : List Bool = c.args.aged.now.items in
+    let there = slice_get_read c.args.buckets.now.items (length c.args.buckets.now.items) c.args.copy _ refl c.requires.inside c.index_mut.ensures.value in
+    let here = kind_at g.B.Bucket.holding c.args.buckets.now.items c.args.copy _ there in
+    subst (λ r. IfOk r (MarksAge form kinds c.args.copy aged (set aged c.args.copy c.ends_old.result) from to)) (sym c.answer.ensures)
+    (marks_age form kinds c.args.rec.now c.args.copy _ aged c.ends_old.result from to c.settle-settled.result here c.ends_old.ensures c.settle-settled.ensures.age c.settle-settled.ensures.counts)
 
 pub returns-clause-exact : goal.returns-clause-exact
 returns-clause-exact g c = λ quiet.

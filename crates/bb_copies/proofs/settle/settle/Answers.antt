@@ -9,6 +9,7 @@ use Rattle.bb_flash.proofs.Moments.{later_joined}
 use Rattle.bb_copies.specs.Erasing.{IsBoundedInSum}
 use Rattle.bb_copies.specs.Settling.{IsRepairWritten, twice_more}
 use Rattle.bb_copies.proofs.Bounded.{bounded_then, bounded_voided, bounded_written}
+use Rattle.bb_copies.proofs.Dating.{age_earlier, nothing_young, written_young}
 use Rattle.bb_copies.proofs.Ends.{counts_read, ends_read_as, failed_once, no_look, not_failed, ok_gives, one_more_most, read_most, twice_most, twice_rose, voided_dead, written_good_as, written_once}
 use Rattle.bb_copies.proofs.OneCopy.{settles_joined_as, voided_copy, written_copy_as}
 use Rattle.bb_copies.proofs.settle.settle.Goals as goal
@@ -21,6 +22,15 @@ returns-then-is_ok-clause-ends g c =
     let mid : Device = g.F.Flash.device c.write.new.flash in
     let done = ok_gives c.write.result _ c.write.ensures.write.done (sym c.is_ok.ensures.value ∙ c.if-is_ok.true) in
     written_good_as form kind c.args.area.now _ from mid c.requires.packed (g.met.M.Format.laws c.args.format.now) (g.met.B.Bucket.laws c.args.bucket.now) c.requires.serves c.requires.fits c.requires.room c.requires.whole c.write.ensures.write.within.later done
+
+pub returns-then-is_ok-clause-age : goal.returns-then-is_ok-clause-age
+returns-then-is_ok-clause-age g c = λ other.
+    let form : Form = g.M.Format.form c.args.format.now in
+    let kind : BucketKind = (g.B.Bucket.holding c.args.bucket.now).kind in
+    let from : Device = g.F.Flash.device c.args.flash.now in
+    let mid : Device = g.F.Flash.device c.write.new.flash in
+    let done = ok_gives c.write.result _ c.write.ensures.write.done (sym c.is_ok.ensures.value ∙ c.if-is_ok.true) in
+    written_young form kind c.args.area.now _ from mid c.requires.packed (g.met.M.Format.laws c.args.format.now) (g.met.B.Bucket.laws c.args.bucket.now) c.requires.serves c.requires.fits c.requires.room c.requires.whole c.write.ensures.write.within.later done
 
 pub returns-then-is_ok-clause-settles : goal.returns-then-is_ok-clause-settles
 returns-then-is_ok-clause-settles g c =
@@ -40,6 +50,13 @@ returns-then-is_ok-2-clause-ends g c =
     let rose = one_more_rose from.faults in
     let later = c.void.ensures.void.within.later.faults in
     voided_dead form (g.B.Bucket.holding c.args.bucket.now).kind (g.B.Bucket.holding c.write.new.self).kind from mid to c.write.ensures.kind (g.met.B.Bucket.laws c.write.new.self) c.write.ensures.write.within.later c.void.ensures.void.within.later done (omega (arith, once, rose, later))
+
+pub returns-then-is_ok-2-clause-age : goal.returns-then-is_ok-2-clause-age
+returns-then-is_ok-2-clause-age g c = λ other.
+    let form : Form = g.M.Format.form c.args.format.now in
+    let from : Device = g.F.Flash.device c.args.flash.now in
+    let to : Device = g.F.Flash.device c.void.new.flash in
+    nothing_young form (g.B.Bucket.holding c.args.bucket.now).kind from to (returns-then-is_ok-2-clause-ends g c).passes
 
 pub returns-then-is_ok-2-clause-settles : goal.returns-then-is_ok-2-clause-settles
 returns-then-is_ok-2-clause-settles g c =
@@ -66,6 +83,16 @@ returns-clause-ends g c =
     let twice : void.faults ≡ twice_more from.faults = again ∙ ap one_more once in
     let rose = twice_rose from.faults in
     ends_read_as form (g.B.Bucket.holding c.args.bucket.now).kind (g.B.Bucket.holding c.void.new.self).kind c.args.area.now from void to c.read_back.result (c.void.ensures.kind ∙ c.write.ensures.kind) (later_joined from mid void c.write.ensures.write.within.later c.void.ensures.void.within.later) (omega (arith, twice, rose)) c.read_back.ensures.settles.later c.read_back.ensures.ends
+
+pub returns-clause-age : goal.returns-clause-age
+returns-clause-age g c = λ other.
+    let form : Form = g.M.Format.form c.args.format.now in
+    let from : Device = g.F.Flash.device c.args.flash.now in
+    let mid : Device = g.F.Flash.device c.write.new.flash in
+    let void : Device = g.F.Flash.device c.void.new.flash in
+    let to : Device = g.F.Flash.device c.read_back.new.flash in
+    age_earlier form (g.B.Bucket.holding c.args.bucket.now).kind (g.B.Bucket.holding c.void.new.self).kind _ from void to (c.void.ensures.kind ∙ c.write.ensures.kind)
+    (later_joined from mid void c.write.ensures.write.within.later c.void.ensures.void.within.later) (c.read_back.ensures.age other)
 
 pub returns-clause-settles : goal.returns-clause-settles
 returns-clause-settles g c =

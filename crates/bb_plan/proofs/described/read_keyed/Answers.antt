@@ -1,7 +1,7 @@
 use Rattle.std.proofs.Common.{sym, subst}
 use Rattle.std.specs.Prelude.{IfOk}
 use Rattle.bb_layout.specs.Layout.{fields_of}
-use Rattle.bb_plan.specs.PlanSteps.{key_after, layout_reading}
+use Rattle.bb_plan.specs.PlanSteps.{keys_after, layout_reading}
 use Rattle.bb_plan.specs.Plan.{IsLaidFor, keyed_as}
 use Rattle.bb_plan.proofs.Readings.{gone_on, same_reading, stopped}
 use Rattle.bb_plan.proofs.described.read_keyed.Goals as goal
@@ -9,7 +9,7 @@ use Rattle.bb_plan.proofs.described.read_keyed.Goals as goal
 pub returns-in_err-layout-clause-read : goal.returns-in_err-layout-clause-read
 returns-in_err-layout-clause-read g c =
     let d = c.args.described.now in
-    stopped (key_after d.key) (layout_reading d.file d.name c.args.geometry) fields_of keyed_as
+    stopped (keys_after d.key d.old_key) (layout_reading d.file d.name c.args.geometry) fields_of keyed_as
     (same_reading (λ n. layout_reading d.file n c.args.geometry) fields_of
     (sym c.as_ref-name.ensures.value) c.in_err-layout.ensures.read)
     c.from_residual.result c.from_residual.ensures.1
@@ -18,14 +18,13 @@ pub returns-clause-read : goal.returns-clause-read
 returns-clause-read g c =
     let d = c.args.described.now in
     let layout = c.in_ok-layout.layout in
-    gone_on (key_after d.key) (layout_reading d.file d.name c.args.geometry) fields_of keyed_as
+    gone_on (keys_after d.key d.old_key) (layout_reading d.file d.name c.args.geometry) fields_of keyed_as
     layout
     (same_reading (λ n. layout_reading d.file n c.args.geometry) fields_of
     (sym c.as_ref-name.ensures.value) c.in_ok-layout.ensures.read)
-    (same_reading (λ file. key_after file (fields_of layout)) keyed_as
-    (sym c.as_ref-key_file.ensures.value) c.with_key.ensures.read)
+    c.with_keys.ensures.read
 
 pub returns-clause-laid : goal.returns-clause-laid
 returns-clause-laid g c =
-    subst (λ geometry. IfOk c.with_key.result (λ keyed. IsLaidFor geometry (keyed_as keyed)))
-    c.in_ok-layout.ensures.same_geometry c.with_key.ensures.laid
+    subst (λ geometry. IfOk c.with_keys.result (λ keyed. IsLaidFor geometry (keyed_as keyed)))
+    c.in_ok-layout.ensures.same_geometry c.with_keys.ensures.laid

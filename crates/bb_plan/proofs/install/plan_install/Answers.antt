@@ -3,12 +3,12 @@ use Rattle.std.specs.Prelude.{IfErr, IfOk, Result}
 use Rattle.bb_install.specs.Beside.{IsBeside}
 use Rattle.bb_layout.specs.Layout.{fields_of}
 use Rattle.bb_plan.specs.Installing.{install_after, install_on, install_work_reading, laid_slot_as, laid_slot_reading}
-use Rattle.bb_plan.specs.PlanSteps.{key_after}
+use Rattle.bb_plan.specs.PlanSteps.{keys_after}
 use Rattle.bb_plan.specs.Refusal.{IsSendableRefusal}
 use Rattle.bb_plan.specs.declared.plan.PlannedTask.{PlannedTask}
 use Rattle.bb_plan.specs.declared.refusal.Refusal.{Refusal}
 use Rattle.bb_plan.specs.Plan.{IsLaidFor, Work, keyed_as, on_copies, task_as}
-use Rattle.bb_plan.proofs.Readings.{gone_on, refused_by, same_reading, stopped, yielded}
+use Rattle.bb_plan.proofs.Readings.{gone_on, refused_by, stopped, yielded}
 use Rattle.bb_plan.proofs.install.plan_install.Goals as goal
 
 pub returns-in_err-laid-clause-read : goal.returns-in_err-laid-clause-read
@@ -25,10 +25,9 @@ returns-in_err-keyed-clause-read g c =
     gone_on (install_after command)
     (laid_slot_reading command.described command.slot.label c.args.geometry) laid_slot_as task_as
     c.in_ok-laid.laid c.in_ok-laid.ensures.read
-    (stopped (install_on command laid.slot) (key_after command.described.key laid.layout) keyed_as
-    task_as
-    (same_reading (λ file. key_after file laid.layout) keyed_as
-    (sym c.as_ref-key_file.ensures.value) c.in_err-keyed.ensures.read)
+    (stopped (install_on command laid.slot)
+    (keys_after command.described.key command.described.old_key laid.layout) keyed_as task_as
+    c.in_err-keyed.ensures.read
     c.from_residual-in_err-keyed.result c.from_residual-in_err-keyed.ensures.1)
 
 pub returns-in_err-work-clause-read : goal.returns-in_err-work-clause-read
@@ -39,10 +38,9 @@ returns-in_err-work-clause-read g c =
     gone_on (install_after command)
     (laid_slot_reading command.described command.slot.label c.args.geometry) laid_slot_as task_as
     c.in_ok-laid.laid c.in_ok-laid.ensures.read
-    (gone_on (install_on command laid.slot) (key_after command.described.key laid.layout) keyed_as
-    task_as c.in_ok-keyed.keyed
-    (same_reading (λ file. key_after file laid.layout) keyed_as
-    (sym c.as_ref-key_file.ensures.value) c.in_ok-keyed.ensures.read)
+    (gone_on (install_on command laid.slot)
+    (keys_after command.described.key command.described.old_key laid.layout) keyed_as task_as
+    c.in_ok-keyed.keyed c.in_ok-keyed.ensures.read
     (stopped (on_copies keyed) (install_work_reading command laid.slot keyed.layout)
     (λ (w : Work). w) task_as c.in_err-work.ensures.read c.from_residual-in_err-work.result
     c.from_residual-in_err-work.ensures.1))
@@ -55,10 +53,9 @@ returns-clause-read g c =
     gone_on (install_after command)
     (laid_slot_reading command.described command.slot.label c.args.geometry) laid_slot_as task_as
     c.in_ok-laid.laid c.in_ok-laid.ensures.read
-    (gone_on (install_on command laid.slot) (key_after command.described.key laid.layout) keyed_as
-    task_as c.in_ok-keyed.keyed
-    (same_reading (λ file. key_after file laid.layout) keyed_as
-    (sym c.as_ref-key_file.ensures.value) c.in_ok-keyed.ensures.read)
+    (gone_on (install_on command laid.slot)
+    (keys_after command.described.key command.described.old_key laid.layout) keyed_as task_as
+    c.in_ok-keyed.keyed c.in_ok-keyed.ensures.read
     (gone_on (on_copies keyed) (install_work_reading command laid.slot keyed.layout)
     (λ (w : Work). w) task_as c.in_ok-work.work c.in_ok-work.ensures.read (yielded task_as refl)))
 

@@ -45,6 +45,11 @@ returns-in-History-clause-read g c =
     same_reading (λ w. command_reading w c.args.geometry) task_as c.in-History.is
     c.plan_described-in-History.ensures.read
 
+pub returns-in-Rekey-clause-read : goal.returns-in-Rekey-clause-read
+returns-in-Rekey-clause-read g c =
+    same_reading (λ w. command_reading w c.args.geometry) task_as c.in-Rekey.is
+    c.plan_described-in-Rekey.ensures.read
+
 pub returns-in_err-text-in-Menu-clause-read : goal.returns-in_err-text-in-Menu-clause-read
 returns-in_err-text-in-Menu-clause-read g c =
     same_reading (λ w. command_reading w c.args.geometry) task_as c.in-Menu.is

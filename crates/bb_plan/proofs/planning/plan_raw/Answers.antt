@@ -23,7 +23,7 @@ returns-in_err-layout-clause-gives c =
 
 pub returns-clause-gives : goal.returns-clause-gives
 returns-clause-gives c =
-    let keyed : Keyed = record { layout = fields_of c.in_ok-layout.layout; key = None } in
+    let keyed : Keyed = record { layout = fields_of c.in_ok-layout.layout; key = None; old = None } in
     ap (λ laid. result_and_then (raw_on c.args.command) (refused_as BadLayout laid))
     c.in_ok-layout.ensures.ok
     ∙ ap (λ work. Ok (OnCopies (record { keyed = keyed; work = work }))) (sym c.raw_work-work.ensures)
@@ -31,10 +31,14 @@ returns-clause-gives c =
 pub returns-clause-planned : goal.returns-clause-planned
 returns-clause-planned c =
     let command = c.args.command in
-    let keyed : Keyed = record { layout = fields_of c.in_ok-layout.layout; key = None } in
+    let keyed : Keyed = record { layout = fields_of c.in_ok-layout.layout; key = None; old = None } in
     let layout = c.in_ok-layout.ensures in
     record {
-      laid = record { fits = sym (ap takes_key layout.format); same_geometry = layout.device };
+      laid = record {
+        fits = sym (ap takes_key layout.format);
+        old_fits = λ some. absurd cc;
+        same_geometry = layout.device;
+      };
       served =
           subst (IsServed keyed) (sym c.raw_work-work.ensures)
           (raw_served command.magic command.area_len c.args.geometry keyed.layout command.action

@@ -144,3 +144,8 @@ returns-in_ok-plans-in-Run-clause-read g c =
     (yielded (λ (w : Work). w)
     (ap (λ cause. Run script targets cause c.in_ok-plans-in-Run.plans)
     (sym c.cause_of-in-Run.ensures))))))
+
+pub returns-in-Rekey-clause-read : goal.returns-in-Rekey-clause-read
+returns-in-Rekey-clause-read g c =
+    same_reading (λ r. work_reading r (fields_of c.args.keyed.now.layout)) (λ (w : Work). w) c.in-Rekey.is
+    (yielded (λ (w : Work). w) refl)

@@ -5,7 +5,7 @@ use Rattle.bb_tool.specs.Calls.{IsSession, KeepsFiles, KeepsHistory, LeavesUnnam
 use Rattle.bb_tool.specs.Clauses.{EndsEarly, KeepsTheCopies, KnowsItsCauses, LeavesTheRest, SendsTheSession, StartsTheBest, WorksUndisturbed}
 use Rattle.bb_tool.specs.Ran.{Ran}
 use Rattle.bb_tool.proofs.Endings.{bad_words_of, comes_alone, comes_planned, copy_of_fault, file_fault_of, front_of, read_fault_of, sink_fault_of, sink_faults_of, slot_fault_of, slot_place_of, unasked_of, write_fault_of}
-use Rattle.bb_tool.proofs.Copying.{at_exit, beside, calm_of, holds_of, on_a_trail, safe_of, slot_faults_of, unread_of, write_faults_of}
+use Rattle.bb_tool.proofs.Copying.{ages_of, at_exit, beside, calm_of, counts_of, holds_of, on_a_trail, safe_of, slot_faults_of, unread_of, write_faults_of}
 use Rattle.bb_tool.proofs.ScriptEnds.{no_memory_of, script_failed_of, shown_of, step_limit_of}
 use Rattle.bb_tool.proofs.Starting.{boots_of, rounds_of, start_causes_of, start_failed_of, start_faults_of, starts_of, starts_once_of, starts_saved_of}
 use Rattle.bb_tool.proofs.Tables.{last_target_of, no_good_of, no_target_of}
@@ -36,6 +36,8 @@ keeps ran = record {
   outside = beside ran;
   safe = safe_of ran;
   holds = holds_of ran;
+  ages = ages_of ran;
+  counts = counts_of ran;
 }
 
 pub undisturbed : (ran : Ran) → IsSession ran → WorksUndisturbed ran

@@ -25,6 +25,9 @@ returns-clause-load g c =
 pub load_copies-requires-clause-marks : goal.load_copies-requires-clause-marks
 load_copies-requires-clause-marks g c = grind (arith, common_steps)
 
+pub load_copies-requires-clause-ages : goal.load_copies-requires-clause-ages
+load_copies-requires-clause-ages g c = grind (arith, common_steps)
+
 pub load_copies-requires-clause-many : goal.load_copies-requires-clause-many
 load_copies-requires-clause-many g c = grind (arith, common_steps)
 

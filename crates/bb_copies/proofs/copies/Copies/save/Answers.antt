@@ -68,6 +68,7 @@ invariant_of-self-2 g c =
       few = omega (arith, i.few, size);
       inside = omega (arith, inside, size);
       marked = k.marks ∙ i.marked ∙ sym size;
+      dated = k.ages ∙ i.dated ∙ sym size;
       record_fits =
           subst (λ (n : ℕ). HoldsRecords form new c.self.inside.most n) (sym k.«record»)
           (subst (λ (ks : List BucketKind). HoldsRecords form ks c.self.inside.most (length c.self.inside.rec.items)) (sym k.kinds) i.record_fits);

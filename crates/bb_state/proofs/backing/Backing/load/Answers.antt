@@ -7,7 +7,7 @@ use Rattle.bb_layout.specs.Convert.{convert}
 use Rattle.bb_layout.specs.Layout.{fields_of}
 use Rattle.bb_state.specs.Backed.{Backed}
 use Rattle.bb_state.specs.Keyed.{Keyed}
-use Rattle.bb_state.specs.Kinds.{any_form, any_holding, is_table, key_of_format, laid_form, laid_kinds}
+use Rattle.bb_state.specs.Kinds.{any_form, any_holding, is_table, key_of_format, laid_form, laid_kinds, old_of_format}
 use Rattle.bb_state.specs.Stored.{stored_len_of}
 use Rattle.bb_state.specs.declared.any_bucket.AnyBucket.{AnyBucket}
 use Rattle.bb_state.proofs.Fitting.{converted_fits}
@@ -45,7 +45,7 @@ returns-clause-fits g c =
     let layout = c.self.inside.layout in
     let loaded = c.in_ok-loaded.loaded in
     let len = c.self.inside.kept.len in
-    let keyed : Keyed = record { layout = fields_of layout; key = key_of_format c.self.inside.copies.format } in
+    let keyed : Keyed = record { layout = fields_of layout; key = key_of_format c.self.inside.copies.format; old = old_of_format c.self.inside.copies.format } in
     let left = take c.self.inside.memory.len (c.load.new.area ++ drop (length c.load.new.area) c.self.inside.memory.items) in
     let same : left ≡ c.load.new.area = whole_written c.self.inside.memory.len c.load.new.area c.self.inside.memory.items (grind arith) (grind arith) in
     let stored : take c.stored_len-self-inside.result left ≡ stored_in c.load.new.area (Ok loaded) =

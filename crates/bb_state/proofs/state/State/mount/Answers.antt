@@ -11,7 +11,7 @@ invariant_of-result-clause-facts c = subst (λ (k : Keyed). IsLaid k.layout) (sy
 
 pub invariant_of-result-clause-fits : goal.invariant_of-result-clause-fits
 invariant_of-result-clause-fits c =
-    let keyed : Keyed = record { layout = fields_of c.args.layout; key = c.args.key } in
+    let keyed : Keyed = record { layout = fields_of c.args.layout; key = c.args.key; old = c.args.old } in
     subst (λ (k : Keyed). IsTrue (is_table k c.in_ok-table.table)) (sym c.in_ok-backing.ensures.keyed)
     (subst (λ (table : List ℕ). IsTrue (is_table keyed table)) (sym c.in_ok-table.ensures.defaults) (defaults_fit keyed c.args.layout.facts))
 
