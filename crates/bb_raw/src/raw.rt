@@ -72,7 +72,12 @@ impl Raw {
           room = room;
         } }
     {
-        Raw { magic, key, old, room }
+        Raw {
+            magic,
+            key,
+            old,
+            room,
+        }
     }
 }
 

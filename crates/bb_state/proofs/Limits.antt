@@ -148,9 +148,10 @@ raw_alike : (key old : Option (List ℕ)) (layout : Laid) (bytes : List ℕ) →
 raw_alike key old layout bytes short =
     let kind : RawKind = record { magic = layout.magic; key = key } in
     let standing : RawRecords = record { kind = kind; old = old; room = copy_room layout } in
-    let any : RawRecords = record { kind = kind; old = old; room = record_limit } in
-    (passes_as_anywhere standing bytes short ∙ sym (passes_without_limit any bytes refl),
-    old_as_anywhere standing bytes short ∙ sym (old_without_limit any bytes refl))
+    let any : RawRecords = record { kind = kind; old = old; room = record_limit } in (
+      passes_as_anywhere standing bytes short ∙ sym (passes_without_limit any bytes refl),
+      old_as_anywhere standing bytes short ∙ sym (old_without_limit any bytes refl),
+    )
 
 passes_alike : (format : FormatKind) (keyed : Keyed) (bytes : List ℕ) → length bytes ≤ copy_room keyed.layout →
     PassAlike (any_form (format_for format keyed)) (any_form (unlimited (format_for format keyed))) bytes

@@ -19,8 +19,8 @@ mod word;
 
 pub use command::{
     Action, ActionList, BootCommand, CauseWord, Command, Described, DrillNumbers, HistoryCommand,
-    InstallCommand, MarkGoodCommand, MenuCommand, RawAction, RawCommand, RekeyCommand, ShellCommand,
-    SlotWords, StateCommand, VerifyCommand,
+    InstallCommand, MarkGoodCommand, MenuCommand, RawAction, RawCommand, RekeyCommand,
+    ShellCommand, SlotWords, StateCommand, VerifyCommand,
 };
 pub use error::WordsError;
 pub use law::{law_accepted_words, law_first_bad_word};

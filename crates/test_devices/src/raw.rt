@@ -105,7 +105,10 @@ fn an_area_passes_where_its_record_has_room(rt: HostRuntime) -> Result<(), Fail>
 fn the_memory_for_an_area_is_no_longer_than_its_room(rt: HostRuntime) {
     assert_eq!(rt; Raw::within(0x1234_5678, None, None, 56).area_len(), 40);
     assert_eq!(rt; Raw::within(0x1234_5678, None, None, 15).area_len(), 0);
-    assert_eq!(rt; Raw::within(0x1234_5678, None, None, 65_551).area_len(), 65_535);
+    assert_eq!(rt;
+        Raw::within(0x1234_5678, None, None, 65_551).area_len(),
+        65_535
+    );
     assert_eq!(rt;
         Raw::within(0x1234_5678, None, None, 1_048_576).area_len(),
         65_535
