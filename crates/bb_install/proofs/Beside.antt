@@ -7,8 +7,8 @@ use Rattle.std.proofs.lemmas.List.FromFn.{length-map-range_with_len, get_or-map-
 use Rattle.std.proofs.lemmas.Option.{get_or_from_slice_get, slice_get_within}
 use Rattle.bb_bucket.specs.Kind.{BucketKind}
 use Rattle.bb_copies.specs.Buckets.{IsApart}
-use Rattle.bb_copies.specs.Passing.{passing_of, passings}
-use Rattle.bb_copies.proofs.Many.{bucket_at as bucket_of_kind, same_passing}
+use Rattle.bb_copies.specs.Passing.{aged_passing_of, aged_passings}
+use Rattle.bb_copies.proofs.Many.{bucket_at as bucket_of_kind, same_aged}
 use Rattle.bb_flash.proofs.Moments.{images_weaker}
 use Rattle.bb_flash.proofs.Regions.{Torn-region}
 use Rattle.bb_flash.specs.Cuts.{EachImage, EachTorn, IsSameRegion}
@@ -27,7 +27,7 @@ use Rattle.bb_layout.specs.Layout.{Laid, laid_len}
 use Rattle.bb_layout.specs.declared.storage.Storage.{Storage}
 use Rattle.bb_layout.specs.declared.storage.Storage.TheVariants.{Stride, OneBlock, Circular}
 use Rattle.bb_state.specs.Keyed.{Keyed}
-use Rattle.bb_state.specs.Kinds.{any_holding, bucket_at, laid_form, laid_kinds, laid_passings, longest_len}
+use Rattle.bb_state.specs.Kinds.{any_holding, bucket_at, laid_aged, laid_form, laid_kinds, longest_len}
 use Rattle.bb_state.specs.declared.any_bucket.AnyBucket.{AnyBucket}
 
 -- ---- the copies of a layout lie in its partition
@@ -156,31 +156,31 @@ module _ (page : ℕ) (slot : Region) (some : 0 < page) (first : slot.at % page 
       let still = torn_none page slot.at before image first (subst (λ n. Torn page slot.at n before image) empty torn) in
       subst (IsSameRegion page kind.region.at kind.region.size before) (sym still) (record { bytes = refl; health = refl })
 
--- ---- the copies pass what they passed
+-- ---- the copies pass what they passed, with the same ages
 
-same_passings : (keyed : Keyed) (before image : Image) →
+same_ages : (keyed : Keyed) (before image : Image) →
     ((copy : ℕ) (kind : BucketKind) → slice_get (laid_kinds keyed.layout) copy ≡ Some kind →
     IsSameRegion keyed.layout.geometry.page kind.region.at kind.region.size before image) →
-    laid_passings keyed image ≡ laid_passings keyed before
-same_passings keyed before image same = by (laid_kinds keyed.layout) same
+    laid_aged keyed image ≡ laid_aged keyed before
+same_ages keyed before image same = by (laid_kinds keyed.layout) same
   where
     page : ℕ
     page = keyed.layout.geometry.page
 
     by : (kinds : List BucketKind) →
         ((copy : ℕ) (kind : BucketKind) → slice_get kinds copy ≡ Some kind → IsSameRegion page kind.region.at kind.region.size before image) →
-        passings (laid_form keyed) page kinds image ≡ passings (laid_form keyed) page kinds before
+        aged_passings (laid_form keyed) page kinds image ≡ aged_passings (laid_form keyed) page kinds before
     by [] each = refl
     by (kind ∷ kinds) each =
-        ap (λ passed. passed ∷ passings (laid_form keyed) page kinds image) (same_passing (laid_form keyed) page kind before image (each 0 kind refl))
-        ∙ ap (λ rest. passing_of (laid_form keyed) page kind before ∷ rest) (by kinds (λ copy beside here. each (suc copy) beside here))
+        ap (λ passed. passed ∷ aged_passings (laid_form keyed) page kinds image) (same_aged (laid_form keyed) page kind before image (each 0 kind refl))
+        ∙ ap (λ rest. aged_passing_of (laid_form keyed) page kind before ∷ rest) (by kinds (λ copy beside here. each (suc copy) beside here))
 
 -- no torn call on the slot changes what a copy passes
 pub slot_passes : (keyed : Keyed) (slot : Region) → 0 < keyed.layout.geometry.page → slot.at % keyed.layout.geometry.page ≡ 0 →
     slot.size % keyed.layout.geometry.page ≡ 0 → IsBesideCopies (laid_kinds keyed.layout) slot → (before image : Image) →
-    Torn keyed.layout.geometry.page slot.at slot.size before image → laid_passings keyed image ≡ laid_passings keyed before
+    Torn keyed.layout.geometry.page slot.at slot.size before image → laid_aged keyed image ≡ laid_aged keyed before
 slot_passes keyed slot some first whole beside before image torn =
-    same_passings keyed before image
+    same_ages keyed before image
     (beside_same keyed.layout.geometry.page slot some first whole before image torn (laid_kinds keyed.layout) beside)
 
 -- and a region apart from it is as before

@@ -16,12 +16,15 @@ use Rattle.bb_flash.specs.Device.{Device, Told, content}
 use Rattle.bb_flash.specs.Image.{Image}
 use Rattle.bb_flash.specs.declared.geometry.Geometry.{Geometry}
 use Rattle.bb_plan.specs.Plan.{SessionPlan}
+use Rattle.bb_plan.specs.declared.plan.SlotImage.{SlotImage}
 use Rattle.bb_plan.specs.declared.plan.Work.{Work}
 use Rattle.bb_plan.specs.declared.plan.Work.TheVariants.{Rekey}
 use Rattle.bb_session.proofs.Acted.{ran_of, session_rounds}
+use Rattle.bb_session.proofs.Around.{around_none}
 use Rattle.bb_session.proofs.Kept.{loaded_left}
 use Rattle.bb_session.proofs.Turns.{told_content}
-use Rattle.bb_session.specs.Acting.{AreRoundsOf, WorkAnswers, acts_of, kept_before, needs_table, saves_always, start_plans_of}
+use Rattle.bb_session.specs.Acting.{AreRoundsOf, WorkAnswers, acts_of, kept_before, needs_table, place_in, saves_always, start_plans_of}
+use Rattle.bb_session.specs.Around.{AreRunAround}
 use Rattle.bb_session.specs.Aging.{AllSavesMade, HasAges, HasCounted, LeavesAges, SavesMade, SendsItsCounts}
 use Rattle.bb_session.specs.Looking.{aged_in, passed_in}
 use Rattle.bb_session.specs.Rekeying.{CopyCounts, counts_in}
@@ -29,7 +32,6 @@ use Rattle.bb_session.specs.Session.{LoadAnswer, loaded_area}
 use Rattle.bb_session.specs.SessionTurns.{IsFairRun}
 use Rattle.bb_session.specs.Work.{IsLoadedArea, IsLoadedAs, IsLoadedFor, IsLookWork, IsTableWork, IsWork}
 use Rattle.bb_shell.proofs.Joins.{there}
-use Rattle.bb_shell.proofs.Reached.{none_alone}
 use Rattle.bb_shell.specs.Aging.{HoldsTable, KeepsAges}
 use Rattle.bb_state.proofs.Showing.{all_show}
 use Rattle.bb_state.specs.Keyed.{Keyed}
@@ -177,8 +179,14 @@ table_counts plan from to (Ok found) answers rekeys work =
     let counted : IsLoadedFor keyed answers.counts from mid found = work.counted rekeys in
     let rounds : work.ran.rounds ≡ [] =
     subst (λ (w : Work). AreRoundsOf (start_plans_of plan.work) (acts_of keyed.layout w table) work.ran.rounds) rekeys work.ran.are in
-    let same : to ≡ mid =
-    none_alone keyed (start_plans_of plan.work) work.ran.rounds (kept_before plan.work table) work.used work.ran.now mid to work.ran.run rounds in
+    let plans = start_plans_of plan.work in
+    let kept = kept_before plan.work table in
+    let unplaced : place_in (acts_of keyed.layout plan.work table) ≡ None =
+    ap (λ (w : Work). place_in (acts_of keyed.layout w table)) rekeys in
+    let run : AreRunAround keyed plans None kept work.used work.ran.now work.ran.rounds answers.stuck mid to =
+    subst (λ (p : Option SlotImage). AreRunAround keyed plans p kept work.used work.ran.now work.ran.rounds answers.stuck mid to)
+    unplaced work.ran.run in
+    let same : to ≡ mid = around_none keyed plans kept work.used work.ran.now work.ran.rounds answers.stuck mid to run rounds in
     subst (λ d. HasCounted plan from d found answers) (sym same)
     (record {
       loaded = counted;

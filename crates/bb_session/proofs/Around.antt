@@ -21,15 +21,17 @@ use Rattle.bb_flash.specs.declared.region.Region.{Region}
 use Rattle.bb_install.specs.Beside.{IsBesideCopies}
 use Rattle.bb_install.proofs.Places.{slot_lies}
 use Rattle.bb_install.specs.Slot.{HasPlace}
+use Rattle.bb_shell.proofs.Aging.{RenewsBy, round_renews_all, round_young, step_renews, step_young, young_joined}
 use Rattle.bb_shell.proofs.Joined.{run_joined, stops_joined}
 use Rattle.bb_shell.proofs.LastRounds.{kept_cons, last_cons, refused_cons}
-use Rattle.bb_shell.proofs.Reached.{Luck, Reaches, round_reached, rounds_later, rounds_reached}
+use Rattle.bb_shell.proofs.Reached.{Luck, Reaches, none_alone, round_reached, rounds_later, rounds_reached}
 use Rattle.bb_shell.proofs.Sequence.{adds_from, none_run, none_stops, once_stops, ran_rounds, stops_refused, stops_there}
 use Rattle.bb_shell.proofs.Starts.{round_adds, round_later, round_outside, round_rose, round_stored}
 use Rattle.bb_shell.proofs.Still.{IsStill, PassesSame, still_leads, still_reached, still_stored, still_trails}
 use Rattle.bb_shell.proofs.Trails.{round_leads, round_trails, rounds_leads, rounds_trails}
 use Rattle.bb_shell.proofs.Joins.{stored_joined}
 use Rattle.bb_shell.proofs.Underway.{rose_more}
+use Rattle.bb_shell.specs.Aging.{KeepsAges, KeepsYoung}
 use Rattle.bb_shell.specs.Boot.{Round, last_round, plan_at}
 use Rattle.bb_shell.specs.Ends.{AddsStart, RaisedBy, StaysStored, failed_start, failed_starts}
 use Rattle.bb_shell.specs.Running.{AreRun, IsRoundRun, is_refused_save, refusal_of}
@@ -38,7 +40,7 @@ use Rattle.bb_shell.specs.Stages.{KeepsATrail, KeepsAtExit, kept_after, saving_r
 use Rattle.bb_shell.specs.declared.outcome.Outcome.{Outcome}
 use Rattle.bb_shell.specs.declared.outcome.Outcome.TheVariants.{Unplanned}
 use Rattle.bb_state.specs.Keyed.{Keyed}
-use Rattle.bb_state.specs.Kinds.{laid_kinds, laid_passings}
+use Rattle.bb_state.specs.Kinds.{laid_aged, laid_kinds}
 use Rattle.bb_plan.specs.declared.plan.SlotImage.{SlotImage}
 use Rattle.bb_session.specs.Acting.{Acts, AreRoundsOf, BootsFrom, Plays, SavesAround, SavesOnce, around_rounds, place_in}
 use Rattle.bb_session.specs.Around.{AreRunAround, IsSlotRun, IsSlotRunAfter, KeepsOutsideBoth}
@@ -73,6 +75,7 @@ pub record RanWork
   pub trail : KeepsATrail keyed kept used rounds from to
   pub exit : KeepsAtExit keyed kept used now rounds from to
   pub stored : refused_in rounds ≡ None → StaysStored keyed kept (kept_after kept rounds) from to
+  pub ages : KeepsAges keyed kept rounds from to
   pub outside : KeepsOutsideBoth (laid_kinds keyed.layout) slot from to
   pub later : IsLater from to
   pub starts : AddsLast plans rounds from to
@@ -91,6 +94,7 @@ ran_without keyed plans slot kept used now rounds from to ran = record {
   trail = ran.trail;
   exit = ran.exit;
   stored = ran.stored;
+  ages = ran.ages;
   outside = outside_both (laid_kinds keyed.layout) slot from to ran.outside;
   later = ran.later;
   starts = ran.starts;
@@ -137,8 +141,8 @@ module _ (keyed : Keyed) (place : SlotImage) (stuck : Option ℕ) (from to : Dev
   held_same x y at_x at_y =
       let one = told_at from x at_x in
       let two = told_at to y at_y in
-      subst (λ i. laid_passings keyed i ≡ laid_passings keyed x) two.2
-      (subst (λ i. laid_passings keyed two.0.image ≡ laid_passings keyed i) one.2
+      subst (λ i. laid_aged keyed i ≡ laid_aged keyed x) two.2
+      (subst (λ i. laid_aged keyed two.0.image ≡ laid_aged keyed i) one.2
       (passes_same.each one.0 one.1 two.0 two.1 two.0.image (inl refl)))
 
   -- each copy's region is as before
@@ -260,6 +264,22 @@ module _ (keyed : Keyed) (plans : List (Option StartPlan)) (kept : Option (List 
       (stored_joined keyed Kept Kept (kept_after Kept back) before behind to still.later
       (still_stored keyed Kept before behind still) (ran_back.stored (refused_behind round back none))))
 
+  -- which of them are old
+  ages_rest : KeepsYoung keyed before to
+  ages_rest =
+      young_joined keyed before behind to still.later ran_back.later (step_young keyed before behind still) ran_back.ages.stays
+
+  renewed_rest : RenewsBy keyed Kept Saving before to
+  renewed_rest = step_renews keyed Kept Saving before behind to still ran_back.later ran_back.ages.renewed
+
+  ages_is : KeepsAges keyed kept (round ∷ back) from to
+  ages_is = record {
+    stays = young_joined keyed from before to early late (round_young keyed plans kept used copy round from before geometry run) ages_rest;
+    renewed =
+        round_renews_all keyed plans kept used copy round back from before to geometry run late ages_rest
+        (stops_refused (round ∷ back) stops) renewed_rest;
+  }
+
   outside_is : KeepsOutsideBoth (laid_kinds keyed.layout) (Some place.slot) from to
   outside_is =
       both_joined (laid_kinds keyed.layout) (Some place.slot) from before to early late
@@ -289,6 +309,7 @@ module _ (keyed : Keyed) (plans : List (Option StartPlan)) (kept : Option (List 
     trail = trail_is;
     exit = exit_is;
     stored = stored_is;
+    ages = ages_is;
     outside = outside_is;
     later = whole;
     starts = starts_is;
@@ -329,6 +350,21 @@ around_later keyed plans place kept used now rounds stuck from to run =
     later_joined from run.before to (rounds_later keyed plans run.front kept used run.copy from run.before run.early)
     (later_joined run.before run.behind to (slot_later place (refused_in run.front) stuck run.before run.behind run.wrote)
     (rounds_later keyed plans run.back (kept_after kept run.front) run.copy now run.behind to run.late))
+
+-- ---- no rounds
+
+none_of : {A : Type 0} (xs ys : List A) → xs ++ ys ≡ [] → (xs ≡ []) × (ys ≡ [])
+none_of [] ys e = (refl, e)
+none_of (x ∷ xs) ys e = absurd cc
+
+-- without a slot nothing was done then
+pub around_none : (keyed : Keyed) (plans : List (Option StartPlan)) (kept : Option (List ℕ)) (used now : Option ℕ) (rounds : List Round)
+    (stuck : Option ℕ) (from to : Device) → AreRunAround keyed plans None kept used now rounds stuck from to → rounds ≡ [] → to ≡ from
+around_none keyed plans kept used now rounds stuck from to run none =
+    let both = none_of run.front run.back (sym run.split ∙ none) in
+    none_alone keyed plans run.back (kept_after kept run.front) run.copy now run.behind to run.late both.1
+    ∙ run.wrote
+    ∙ none_alone keyed plans run.front kept used run.copy from run.before run.early both.0
 
 -- ---- of a work
 

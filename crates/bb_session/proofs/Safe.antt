@@ -30,7 +30,7 @@ use Rattle.bb_layout.specs.Layout.{Laid}
 use Rattle.bb_shell.proofs.Joins.{there}
 use Rattle.bb_shell.proofs.Reached.{Luck, begun_saving, idle_saving, is_made, made_cons, none_alone, rounds_later}
 use Rattle.bb_shell.proofs.Sequence.{once_stops, ran_rounds}
-use Rattle.bb_shell.proofs.Still.{PassesSame}
+use Rattle.bb_shell.proofs.Still.{PassesSame, passed_on}
 use Rattle.bb_shell.specs.Boot.{Round}
 use Rattle.bb_shell.specs.Counting.{turn_of_rounds}
 use Rattle.bb_shell.specs.Rounds.{best_of}
@@ -49,7 +49,7 @@ use Rattle.bb_session.specs.Acting.{Acts, AreRoundsOf, IsSavedAround, LastOne, S
 use Rattle.bb_session.specs.Around.{AreRunAround, IsSlotRun, IsSlotRunAfter, slot_of_work, slot_refusal}
 use Rattle.bb_session.specs.Exactly.{HoldsImage}
 use Rattle.bb_session.specs.Installing.{installed_name}
-use Rattle.bb_session.specs.Looking.{passed_in}
+use Rattle.bb_session.specs.Looking.{aged_in, passed_in}
 use Rattle.bb_session.specs.Safe.{HoldsAfter, IsSafe, IsSafeBy, StandsForOne}
 use Rattle.bb_session.specs.Session.{LoadAnswer, acts_after, around_session, ended_by, loaded_area, session_by_acts, shown, text_after, text_unstuck, work_session}
 use Rattle.bb_session.specs.SessionTurns.{table_turn, turn_of}
@@ -333,7 +333,7 @@ module _ (keyed : Keyed) (plans : List (Option StartPlan)) (kept : Option (List 
       number = stands.number;
       stage = stands.stage;
       is = stands.is;
-      stands = subst (λ (p : List (Option (List ℕ))). StandsAt first_area p stands.stage) (sym same) stands.stands;
+      stands = subst (λ (p : List (Option (List ℕ))). StandsAt first_area p stands.stage) (sym (passed_on keyed y z same)) stands.stands;
       each = stands.each;
     }
 
@@ -389,7 +389,7 @@ SafeAt page keyed stages work load from to =
     ForSome to.told
     (λ last.
     (before : Content) → before.passed ≡ passed_in keyed page first.image → IsStanding first_area before →
-    (image : Image) → Counts (IsLucky (passed_in keyed page)) page last (moment first) image →
+    (image : Image) → Counts (IsLucky (aged_in keyed page)) page last (moment first) image →
     IsSafeBy keyed page (stages before) work load first.image image))
 
 -- so it is where the slot is as at entry in each image

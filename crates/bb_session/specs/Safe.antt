@@ -21,7 +21,7 @@ use Rattle.bb_shell.specs.Stages.{first_area}
 use Rattle.bb_state.specs.Keyed.{Keyed}
 use Rattle.bb_session.specs.Acting.{WorkAnswers}
 use Rattle.bb_session.specs.Exactly.{HoldsImage, place_after}
-use Rattle.bb_session.specs.Looking.{passed_in}
+use Rattle.bb_session.specs.Looking.{aged_in, passed_in}
 use Rattle.bb_session.specs.Session.{LoadAnswer, loaded_area}
 use Rattle.bb_session.specs.SessionTurns.{EachStanding, turn_of}
 
@@ -60,7 +60,7 @@ IsSafe plan from to load answers =
     EachStanding plan.keyed from to
     (λ first last before.
     (image : Image) →
-    Counts (IsLucky (passed_in plan.keyed from.geometry.page)) from.geometry.page last (moment first)
+    Counts (IsLucky (aged_in plan.keyed from.geometry.page)) from.geometry.page last (moment first)
     image →
     IsSafeBy plan.keyed from.geometry.page
     (turn_stages before (turn_of plan load answers before.marks)) plan.work load first.image image)

@@ -25,6 +25,7 @@ use Rattle.bb_state.specs.Shows.{EachShowsOrNothing, IsOwn, ShowsOrNothing}
 use Rattle.bb_shell.proofs.Reached.{Aged, Luck, Passed, StopsRefused, begun_saving, idle_saving, is_made, made_cons, made_holds, rounds_later, start_same, told_image}
 use Rattle.bb_shell.proofs.Saves.{save_later}
 use Rattle.bb_shell.proofs.Starts.{round_later, round_stored, start_later}
+use Rattle.bb_shell.proofs.Still.{IsStill, PassesSame, passed_on}
 use Rattle.bb_shell.proofs.Trails.{fair_from, in_order}
 use Rattle.bb_shell.specs.Aging.{HoldsTable, KeepsAges, KeepsYoung, RenewsAtExit, StaysYoung}
 use Rattle.bb_shell.specs.Boot.{Round, plan_at}
@@ -78,7 +79,7 @@ module _ (keyed : Keyed) where
   still_young from to same =
       counted_weaker (Luck keyed) (λ x y. y ≡ x) (StaysYoung keyed) from to same_young (counted_of_images (Luck keyed) (λ x y. y ≡ x) from to same)
 
-  young_joined : (one two three : Device) → IsLater one two → IsLater two three → KeepsYoung keyed one two → KeepsYoung keyed two three →
+  pub young_joined : (one two three : Device) → IsLater one two → IsLater two three → KeepsYoung keyed one two → KeepsYoung keyed two three →
       KeepsYoung keyed one three
   young_joined one two three early late first second =
       counted_joined (Luck keyed) (StaysYoung keyed) (StaysYoung keyed) (StaysYoung keyed) one two three (λ x y young. young)
@@ -132,19 +133,16 @@ module _ (keyed : Keyed) where
       (rounds_young plans later (Some round.table) run.copy now run.device to (early.geometry ∙ geometry) run.behind)
 
   -- of the rounds that saved
-  abbrev RenewsBy : Option (List ℕ) → List Round → Device → Device → Type 0
+  abbrev pub RenewsBy : Option (List ℕ) → List Round → Device → Device → Type 0
   RenewsBy kept saving from to = saving ≢ [] → count_by is_made saving ≡ length saving → RenewsAtExit keyed kept from to
 
-  module _ (plans : List (Option Plan)) (kept : Option (List ℕ)) (used copy now : Option ℕ) (round : Round) (later : List Round)
+  module _ (plans : List (Option Plan)) (kept : Option (List ℕ)) (used copy : Option ℕ) (round : Round) (later : List Round)
       (from device to : Device) (geometry : from.geometry ≡ keyed.layout.geometry)
-      (run : IsRoundRun keyed plans kept used copy round from device) (behind : AreRun keyed plans (Some round.table) copy now later device to)
+      (run : IsRoundRun keyed plans kept used copy round from device) (late : IsLater device to) (behind : KeepsYoung keyed device to)
       (stops : StopsRefused (round ∷ later))
       (rest : RenewsBy (Some round.table) (saving_rounds (Some round.table) later) device to) where
     early : IsLater from device
     early = round_later keyed plans kept used copy round from device run
-
-    late : IsLater device to
-    late = rounds_later keyed plans later (Some round.table) copy now device to behind
 
     abbrev Saving : List Round
     Saving = saving_rounds (Some round.table) later
@@ -185,7 +183,7 @@ module _ (keyed : Keyed) where
           let passed = held_others keyed kept round.table first.image run.saved.own e held in
           let holds = made_holds keyed plans kept used copy round from device geometry run e done mid.0.image (told_image device mid.0 mid.1) in
           let young : StaysYoung keyed mid.0.image last.image =
-          (rounds_young plans later (Some round.table) copy now device to (early.geometry ∙ geometry) behind).each mid.0 mid.1 last there last.image
+          behind.each mid.0 mid.1 last there last.image
           (inl (record { held = refl; fair = fair_behind })) in
           young (renewed.renewed passed holds.each)
 
@@ -232,8 +230,32 @@ module _ (keyed : Keyed) where
   rounds_renewed plans [] kept used now from to geometry stops run some all = absurd (some refl)
   rounds_renewed plans (round ∷ later) kept used now from to geometry stops run some all =
       let early = round_later keyed plans kept used run.copy round from run.device run.before in
-      round_renews_all plans kept used run.copy now round later from run.device to geometry run.before run.behind stops
+      round_renews_all plans kept used run.copy round later from run.device to geometry run.before
+      (rounds_later keyed plans later (Some round.table) run.copy now run.device to run.behind)
+      (rounds_young plans later (Some round.table) run.copy now run.device to (early.geometry ∙ geometry) run.behind) stops
       (rounds_renewed plans later (Some round.table) run.copy now run.device to (early.geometry ∙ geometry) stops.1 run.behind) some all
+
+  -- ---- after a step in which each copy passes what it passed
+
+  step_same : (x y : Image) → PassesSame keyed x y → StaysYoung keyed x y
+  step_same x y same none = subst NoneIsOld (sym same) none
+
+  pub step_young : (from mid : Device) → IsStill keyed from mid → KeepsYoung keyed from mid
+  step_young from mid still = counted_weaker (Luck keyed) (PassesSame keyed) (StaysYoung keyed) from mid step_same still.images
+
+  held_on : (kept : Option (List ℕ)) (x y : Image) → PassesSame keyed x y → HoldsTable keyed kept x → HoldsTable keyed kept y
+  held_on None x y same held = absurd held
+  held_on (Some table) x y same held = subst (EachShowsOrNothing keyed.layout table) (sym (passed_on keyed x y same)) held
+
+  pub step_renews : (kept : Option (List ℕ)) (saving : List Round) (from mid to : Device) → IsStill keyed from mid → IsLater mid to →
+      RenewsBy kept saving mid to → RenewsBy kept saving from to
+  step_renews kept saving from mid to still late rest some all = λ first here last there held fair.
+      let middle = some_of mid.told (still.later.told ∙ ap is_some here) in
+      let order = in_order first middle.0 (still.later.continued first here middle.0 middle.1) in
+      rest some all middle.0 middle.1 last there
+      (held_on kept first.image middle.0.image
+      (still.held first.image middle.0.image (told_image from first here) (told_image mid middle.0 middle.1)) held)
+      (fair_from (Luck keyed) last (moment first) (moment middle.0) order fair)
 
 -- ---- the words of the contract
 

@@ -1,8 +1,10 @@
--- Rounds after a step in which each image passes what was passed before it: calls outside the
--- copies.
+-- Rounds after a step in which each image passes what was passed before it, with the same ages:
+-- calls outside the copies.
 use Rattle.std.proofs.Common.{◌≡◌, ℕ, ◌+◌, ◌≤◌, List, [], ◌∷◌, ◌++◌, map, Option, Some, arith, refl, sym, ap, subst, ◌∙◌}
 use Rattle.std.specs.Prelude.{is_some}
 use Rattle.bb_bucket.proofs.Runs.{some_of}
+use Rattle.bb_copies.proofs.Ages.{areas_are}
+use Rattle.bb_copies.specs.Ages.{areas_in}
 use Rattle.bb_copies.specs.StandsFor.{Stands}
 use Rattle.bb_copies.specs.Saving.{KeepsUsed}
 use Rattle.bb_copies.specs.Trail.{IsTrail, StandsAtOne, milestone_of, stages_in, trail_of}
@@ -12,7 +14,7 @@ use Rattle.bb_flash.specs.Cuts.{IsLater}
 use Rattle.bb_flash.specs.Device.{Device, Told, content, moment}
 use Rattle.bb_flash.specs.Image.{Image}
 use Rattle.bb_state.specs.Keyed.{Keyed}
-use Rattle.bb_state.specs.Kinds.{laid_passings}
+use Rattle.bb_state.specs.Kinds.{laid_aged, laid_form, laid_kinds, laid_passings}
 use Rattle.bb_shell.proofs.Reached.{Luck, Reaches, at_entry, told_image}
 use Rattle.bb_shell.proofs.Trails.{Leads, StandSince, Trails, answered_from, fair_from, in_front, in_order, longer_one, stand_since}
 use Rattle.bb_shell.specs.Boot.{Round}
@@ -52,16 +54,24 @@ module _ (h : List (List ℕ)) (a one two : ℕ) where
 
 module _ (keyed : Keyed) where
   abbrev pub PassesSame : Image → Image → Type 0
-  PassesSame x y = laid_passings keyed y ≡ laid_passings keyed x
+  PassesSame x y = laid_aged keyed y ≡ laid_aged keyed x
+
+  -- the areas are the same then
+  pub passed_on : (x y : Image) → PassesSame x y → laid_passings keyed y ≡ laid_passings keyed x
+  passed_on x y same =
+      let form = laid_form keyed in
+      let page = keyed.layout.geometry.page in
+      let kinds = laid_kinds keyed.layout in
+      sym (areas_are form page kinds y) ∙ ap areas_in same ∙ areas_are form page kinds x
 
   -- what was kept and used before it still is
   pub still_settled : (kept : Option (List ℕ)) (used : Option ℕ) (x y : Image) (h : List (List ℕ)) (a : ℕ) → PassesSame x y →
       IsSettled keyed kept used x h a → IsSettled keyed kept used y h a
   still_settled kept used x y h a same settled = record {
-    stands = subst (λ p. Stands first_area p h a) (sym same) settled.stands;
+    stands = subst (λ p. Stands first_area p h a) (sym (passed_on x y same)) settled.stands;
     last = settled.last;
     area = settled.area;
-    uses = subst (KeepsUsed used) (sym same) settled.uses;
+    uses = subst (KeepsUsed used) (sym (passed_on x y same)) settled.uses;
   }
 
   pub record IsStill (from mid : Device) : Type 0 where
@@ -76,7 +86,7 @@ module _ (keyed : Keyed) where
     still_reached rest =
         counted_joined (Luck keyed) PassesSame (Reaches keyed kept used saving) (Reaches keyed kept used saving) from mid to
         (λ x y same h a settled.
-        at_entry keyed y h a saving (subst (λ p. Stands first_area p h a) (sym same) settled.stands))
+        at_entry keyed y h a saving (subst (λ p. Stands first_area p h a) (sym (passed_on x y same)) settled.stands))
         (λ x y z same reaches h a settled. reaches h a (still_settled kept used x y h a same settled)) still.later late still.images rest
 
     module _ (first last : Told) (e : from.told ≡ Some first) (f : to.told ≡ Some last) (h : List (List ℕ)) (a : ℕ)
@@ -123,4 +133,4 @@ module _ (keyed : Keyed) where
 
   -- what every copy passed, or nothing
   pub still_stored : (kept : Option (List ℕ)) (from mid : Device) → IsStill from mid → StaysStored keyed kept kept from mid
-  still_stored kept from mid still = λ x e y f held. subst (HoldsKept keyed.layout kept) (sym (still.held x y e f)) held
+  still_stored kept from mid still = λ x e y f held. subst (HoldsKept keyed.layout kept) (sym (passed_on x y (still.held x y e f))) held
