@@ -106,6 +106,11 @@ abbrev pub described_reading : Described → Geometry → Request → Reading Ta
 described_reading described geometry request =
     and_then (on_keyed request) (keyed_reading described geometry)
 
+-- ---- `menu`: a folder is listed
+
+abbrev pub menu_task : List ℕ → Reading Task
+menu_task dir = and_then (λ text. Yields (Prints text)) (menu_reading dir)
+
 -- ---- all commands
 
 abbrev pub command_reading : Command → Geometry → Reading Task
@@ -125,8 +130,7 @@ command_reading (commands.History command) geometry =
     described_reading command.described geometry requests.History
 command_reading (commands.Rekey command) geometry =
     described_reading command.described geometry requests.Rekey
-command_reading (commands.Menu command) geometry =
-    and_then (λ text. Yields (Prints text)) (menu_reading command.dir)
+command_reading (commands.Menu command) geometry = menu_task command.dir
 command_reading (commands.Drill numbers) geometry = Yields (Drills numbers)
 
 abbrev pub words_reading : Result Command ℕ → Geometry → Reading Task

@@ -2,7 +2,7 @@ ghost use Rattle.std.specs.Prelude.{◌≡◌, IfErr, IfOk};
 ghost use Rattle.bb_flash.specs.Geometry.{IsGeometry};
 ghost use Rattle.bb_words.specs.Answer.{IsSized, IsSizedRaw};
 ghost use Rattle.bb_plan.specs.Plan.{IsTaskFor, command_reading, described_reading, plan_reading};
-ghost use Rattle.bb_plan.specs.Plan.{raw_task, raw_work, task_as};
+ghost use Rattle.bb_plan.specs.Plan.{menu_task, raw_task, raw_work, task_as};
 ghost use Rattle.bb_plan.specs.FilesRead.{IsExpected, IsReadAs};
 ghost use Rattle.bb_plan.specs.Refusal.{IsSendableRefusal};
 
@@ -76,12 +76,21 @@ fn plan_command<N: Files>(
         Command::Rekey(command) => {
             plan_described(alloc, &command.described, Request::Rekey, files, geometry)
         }
-        Command::Menu(command) => {
-            let text = read_menu(alloc, files, &command.dir)?;
-            Ok(PlannedTask::Prints(text))
-        }
+        Command::Menu(command) => plan_menu(alloc, &command.dir, files),
         Command::Drill(numbers) => Ok(PlannedTask::Drills(numbers)),
     }
+}
+
+// `menu`: the text of a folder's menu.
+fn plan_menu<N: Files>(alloc: Global, dir: &Text, files: &mut N) -> Result<PlannedTask, Refusal>
+    ensures read { IsReadAs (menu_task dir.now) task_as
+        (N.folder files.old) (N.folder files.new) result }
+    ensures planned { IfOk result (λ task.
+        (geometry : Geometry) → IsTaskFor geometry (task_as task)) }
+    ensures tellable { IfErr result IsSendableRefusal }
+{
+    let text = read_menu(alloc, files, dir)?;
+    Ok(PlannedTask::Prints(text))
 }
 
 // `raw`: its layout, and a look or a save.

@@ -54,11 +54,7 @@ impl Raw {
     /// The format of areas of any length up to `AREA_LIMIT` bytes, under a key where one is given,
     /// and under an old one too where that is given beside the key.
     pub fn of(magic: u32, key: Option<Key>, old: Option<Key>) -> Raw
-        ensures { result ≡ record {
-          kind = record { magic = magic; key = key };
-          old = old;
-          room = record_limit;
-        } }
+        ensures { result ≡ record { kind = kind_under magic key; old = old; room = record_limit } }
     {
         Raw::within(magic, key, old, RECORD_LIMIT)
     }
@@ -66,11 +62,7 @@ impl Raw {
     /// The same for records that stand in `room` bytes: `area_len` is what they leave for an area,
     /// up to `AREA_LIMIT`, and 0 where they leave nothing. A longer area passes as nothing.
     pub fn within(magic: u32, key: Option<Key>, old: Option<Key>, room: u32) -> Raw
-        ensures { result ≡ record {
-          kind = record { magic = magic; key = key };
-          old = old;
-          room = room;
-        } }
+        ensures { result ≡ record { kind = kind_under magic key; old = old; room = room } }
     {
         Raw {
             magic,

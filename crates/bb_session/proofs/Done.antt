@@ -31,7 +31,7 @@ use Rattle.bb_shell.proofs.Answering.{best_is, best_none}
 use Rattle.bb_shell.proofs.Few.{few_rounds, reset_length}
 use Rattle.bb_shell.proofs.LastRounds.{last_there}
 use Rattle.bb_shell.proofs.Sequence.{none_run, save_run}
-use Rattle.bb_session.specs.Acting.{Acts, AreRoundsOf, BootsFrom, NoneBest, SavesOnce, Stops, WorkAnswers, acts_of, answers_to_rounds, bar_refusal, counts_copies, counting, kept_before, marks_of, needs_table, no_answers, place_in, refusal_by_table, rounds_for, saves_always, start_plans_of}
+use Rattle.bb_session.specs.Acting.{Acts, AreRoundsOf, BootsFrom, NoneBest, SavesOnce, Stops, WorkAnswers, acts_of, answers_to_counts, answers_to_rounds, bar_refusal, counts_copies, kept_before, marks_of, needs_table, no_answers, place_in, refusal_by_table, rounds_for, saves_always, start_plans_of}
 use Rattle.bb_session.specs.Around.{slot_of_work}
 use Rattle.bb_session.specs.Booting.{end_refusal, end_text}
 use Rattle.bb_session.specs.Doing.{EndsWith, IsDone, IsSavedOver, IsTold, SaveGives, said_of, stores}
@@ -94,7 +94,7 @@ pub done_counted : (keyed : Keyed) (work : Work) (from mid : Device) (area : Lis
 done_counted keyed work from mid area loaded given geometry rekeys many gave load told =
     let found = area_taken area loaded in
     let used = used_after loaded in
-    let answers : WorkAnswers = counting (counts_in loaded) in
+    let answers : WorkAnswers = answers_to_counts (counts_in loaded) in
     let kept = kept_before Rekey (loaded_area keyed.layout found) in
     subst (λ (w : Work). IsWorkedOut keyed w from mid given) (sym rekeys)
     (worked_out keyed Rekey from mid (Ok found) answers given

@@ -167,8 +167,8 @@ listing text =
     record { rounds = []; grants = None; stuck = None; listed = text; counts = no_counts }
 
 -- to a change of key, whose load gave these counts
-abbrev pub counting : CopyCounts → WorkAnswers
-counting counts =
+abbrev pub answers_to_counts : CopyCounts → WorkAnswers
+answers_to_counts counts =
     record { rounds = []; grants = None; stuck = None; listed = []; counts = counts }
 
 -- the play of a script by these answers

@@ -132,7 +132,8 @@ laid_kinds layout = kinds_of any_holding (laid_buckets layout)
 abbrev pub copy_room : Laid → ℕ
 copy_room layout = spacing layout.geometry layout.storage - stride_header_len
 
--- raw records of its magic that stand in a copy, under a key or none, and under an old one beside it
+-- raw records of its magic that stand in a copy, under a key or none, and under an old one beside
+-- it
 abbrev pub raw_under : Option (List ℕ) → Option (List ℕ) → Laid → AnyFormat
 raw_under key old layout = Raw (record {
   kind = record { magic = layout.magic; key = key };
@@ -166,6 +167,11 @@ key_of_format (Dtb pattern) = None
 abbrev pub old_of_format : AnyFormat → Option (List ℕ)
 old_of_format (Raw raw) = raw.old
 old_of_format (Dtb pattern) = None
+
+-- a layout with the keys of its records
+abbrev pub keyed_by : Laid → AnyFormat → Keyed
+keyed_by layout format =
+    record { layout = layout; key = key_of_format format; old = old_of_format format }
 
 -- what each of its copies passes in an image: an area, or nothing
 abbrev pub laid_passings : Keyed → Image → List (Option (List ℕ))

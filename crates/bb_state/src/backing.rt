@@ -46,16 +46,12 @@ impl Model for Backing {
     ghost use Rattle.std.specs.Prelude.{take};
     ghost use Rattle.bb_layout.specs.Layout.{fields_of};
     ghost use Rattle.bb_state.specs.Backed.{Backed, IsBacked};
-    ghost use Rattle.bb_state.specs.Kinds.{key_of_format, old_of_format};
+    ghost use Rattle.bb_state.specs.Kinds.{keyed_by};
 
     ghost Value = { Backed };
 
     ghost view = { λ b. record {
-      keyed = record {
-        layout = fields_of b.layout;
-        key = key_of_format b.copies.format;
-        old = old_of_format b.copies.format;
-      };
+      keyed = keyed_by (fields_of b.layout) b.copies.format;
       buckets = b.copies.buckets;
       used = b.copies.used;
       sure = b.copies.sure;
@@ -64,11 +60,7 @@ impl Model for Backing {
     } };
 
     ghost invariant = { λ b.
-        IsBacked (record {
-          layout = fields_of b.layout;
-          key = key_of_format b.copies.format;
-          old = old_of_format b.copies.format;
-        })
+        IsBacked (keyed_by (fields_of b.layout) b.copies.format)
         b.copies.buckets b.copies.format b.copies.most b.memory.items b.stored_len b.kept.items };
 }
 

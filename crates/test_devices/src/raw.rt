@@ -103,16 +103,14 @@ fn an_area_passes_where_its_record_has_room(rt: HostRuntime) -> Result<(), Fail>
 
 #[test]
 fn the_memory_for_an_area_is_no_longer_than_its_room(rt: HostRuntime) {
-    assert_eq!(rt; Raw::within(0x1234_5678, None, None, 56).area_len(), 40);
-    assert_eq!(rt; Raw::within(0x1234_5678, None, None, 15).area_len(), 0);
-    assert_eq!(rt;
-        Raw::within(0x1234_5678, None, None, 65_551).area_len(),
-        65_535
-    );
-    assert_eq!(rt;
-        Raw::within(0x1234_5678, None, None, 1_048_576).area_len(),
-        65_535
-    );
+    assert_eq!(rt; area_room(56), 40);
+    assert_eq!(rt; area_room(15), 0);
+    assert_eq!(rt; area_room(65_551), 65_535);
+    assert_eq!(rt; area_room(1_048_576), 65_535);
+}
+
+fn area_room(room: u32) -> usize {
+    Raw::within(0x1234_5678, None, None, room).area_len()
 }
 
 #[test]
@@ -269,11 +267,9 @@ fn under_two_keys_a_record_of_either_passes(rt: HostRuntime) -> Result<(), Fail>
 
 #[test]
 fn under_the_same_key_twice_nothing_is_old(rt: HostRuntime) -> Result<(), Fail> {
-    let record = keyed_record();
-    assert_eq!(rt;
-        passes_under_two(rt.alloc(), b"4a656665", b"4a656665", &record)?,
-        PASSED
-    );
+    let key = b"4a656665";
+    let passed = passes_under_two(rt.alloc(), key, key, &keyed_record())?;
+    assert_eq!(rt; passed, PASSED);
     Ok(())
 }
 

@@ -75,7 +75,7 @@ fn a_boot_over_old_copies_in_logs_outlives_each_fault(rt: HostRuntime) -> Result
     outlives(&rt, rt.alloc(), boots(Kind::Log))
 }
 
-// A session makes fewer calls than 100: behind its last one no fault is met.
+// A session makes fewer calls than 100: after its last one no fault is met.
 fn outlives(rt: &impl Abort, alloc: Global, row: Row) -> Result<(), Fail> {
     for call in 0..100u32 {
         if !each_fill(rt, alloc, row, call)? {

@@ -1,7 +1,6 @@
-use Rattle.std.proofs.Common.{ℕ, List, refl}
-use Rattle.bb_plan.specs.Plan.{Prints, command_reading, raw_task, task_as}
-use Rattle.bb_plan.specs.FilesRead.{Yields, menu_reading}
-use Rattle.bb_plan.proofs.Readings.{gone_on, same_reading, step, stopped, yielded}
+use Rattle.std.proofs.Common.{refl}
+use Rattle.bb_plan.specs.Plan.{command_reading, raw_task, task_as}
+use Rattle.bb_plan.proofs.Readings.{same_reading, step, yielded}
 use Rattle.bb_plan.proofs.planning.plan_command.Goals as goal
 
 pub returns-in-Raw-clause-read : goal.returns-in-Raw-clause-read
@@ -50,19 +49,10 @@ returns-in-Rekey-clause-read g c =
     same_reading (λ w. command_reading w c.args.geometry) task_as c.in-Rekey.is
     c.plan_described-in-Rekey.ensures.read
 
-pub returns-in_err-text-in-Menu-clause-read : goal.returns-in_err-text-in-Menu-clause-read
-returns-in_err-text-in-Menu-clause-read g c =
+pub returns-in-Menu-clause-read : goal.returns-in-Menu-clause-read
+returns-in-Menu-clause-read g c =
     same_reading (λ w. command_reading w c.args.geometry) task_as c.in-Menu.is
-    (stopped (λ (text : List ℕ). Yields (Prints text)) (menu_reading c.in-Menu.command.dir)
-    (λ (text : List ℕ). text) task_as c.in_err-text-in-Menu.ensures.read c.from_residual.result
-    c.from_residual.ensures.1)
-
-pub returns-in_ok-text-in-Menu-clause-read : goal.returns-in_ok-text-in-Menu-clause-read
-returns-in_ok-text-in-Menu-clause-read g c =
-    same_reading (λ w. command_reading w c.args.geometry) task_as c.in-Menu.is
-    (gone_on (λ (text : List ℕ). Yields (Prints text)) (menu_reading c.in-Menu.command.dir)
-    (λ (text : List ℕ). text) task_as c.in_ok-text-in-Menu.text c.in_ok-text-in-Menu.ensures.read
-    (yielded task_as refl))
+    c.plan_menu.ensures.read
 
 pub returns-in-Drill-clause-read : goal.returns-in-Drill-clause-read
 returns-in-Drill-clause-read g c =
