@@ -209,6 +209,7 @@ keyed = record {
     vars = [];
   };
   key = None;
+  old = None;
 }
 
 abbrev boots : Bool → Bool → Cause → List (Option StartPlan) → SessionPlan
