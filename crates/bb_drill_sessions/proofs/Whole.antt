@@ -22,7 +22,7 @@ use Rattle.bb_session.proofs.Barred.{HasMemory, HasNoFault, fault_call, is_call_
 use Rattle.bb_session.proofs.Acted.{session_after}
 use Rattle.bb_session.proofs.Exact.{plan_done, plan_makes}
 use Rattle.bb_session.proofs.Unrefused.{sound_with, unrefused, work_gives, work_same}
-use Rattle.bb_session.specs.Acting.{Acts, BootsFrom, Lists, Plays, SavesAround, SavesNone, SavesOnce, Stops, WorkAnswers, kept_before, rounds_for, start_plans_of, taken_by}
+use Rattle.bb_session.specs.Acting.{Acts, BootsFrom, Lists, Plays, SavesAround, SavesNone, SavesOnce, SendsCounts, Stops, WorkAnswers, kept_before, rounds_for, start_plans_of, taken_by}
 use Rattle.bb_session.specs.Booting.{start_of}
 use Rattle.bb_session.specs.Exactly.{CopyWrite, EachContent, EachTold, LeavesRegions, PassAlike, erases_in, last_area, last_area_of, loaded_region, place_after, saved_region, saves_made, slot_erases, sum_of_writes, worked_region, writes_of_load, writes_of_saves, writes_of_work}
 use Rattle.bb_session.specs.Looking.{first_found, listed_by, passed_in}
@@ -81,6 +81,7 @@ listed_aside plan found text =
         rounds_for (start_plans_of plan.work) acts (sound_with text answers) ≡ rounds_for (start_plans_of plan.work) acts answers
     by SavesNone answers = refl
     by Lists answers = refl
+    by SendsCounts answers = refl
     by (Stops bar) answers = refl
     by (SavesOnce table) answers = refl
     by (SavesAround first place second) answers = refl

@@ -62,6 +62,7 @@ as_work plan from to load answers needs work =
 pub counts_apart : (plans : List (Option StartPlan)) (acts : Acts) (answers : WorkAnswers) (counts : CopyCounts) →
     rounds_for plans acts (record answers { counts = counts }) ≡ rounds_for plans acts answers
 counts_apart plans (SavesOnce table) answers counts = refl
+counts_apart plans (SavesAround first place second) answers counts = refl
 counts_apart plans (BootsFrom targets table) answers counts = refl
 counts_apart plans (Plays script known) answers counts = refl
 counts_apart plans _ answers counts = refl

@@ -40,7 +40,7 @@ use Rattle.bb_plan.specs.declared.refusal.Refusal.{Refusal}
 use Rattle.bb_plan.specs.declared.refusal.Refusal.TheVariants as refusals
 use Rattle.bb_plan.specs.declared.status.Status.{Status}
 use Rattle.bb_plan.specs.declared.status.Status.TheVariants as statuses
-use Rattle.bb_session.specs.Acting.{Acts, AreRoundsOf, LastOne, Lists, LostPlace, NoneBest, Plays, SavesAround, TableBar, WorkAnswers, bar_refusal, kept_before, place_in, play_of, rounds_for, save_rounds_around, start_plans_of}
+use Rattle.bb_session.specs.Acting.{Acts, AreRoundsOf, LastOne, Lists, LostPlace, NoneBest, Plays, SavesAround, SendsCounts, TableBar, WorkAnswers, bar_refusal, kept_before, place_in, play_of, rounds_for, save_rounds_around, start_plans_of}
 use Rattle.bb_session.specs.Around.{AreRunAround, IsSlotRun, IsSlotRunAfter}
 use Rattle.bb_session.specs.Exactly.{last_area_of}
 use Rattle.bb_session.specs.Session.{LoadAnswer, acts_after, around_session, loaded_area, rounds_after, session_by_acts, shown, work_session}
@@ -356,6 +356,7 @@ acts_stuck plan found (SavesAround first place second) answers kept used now rou
     (acts_stop (start_plans_of plan.work) (SavesAround first place second) rounds are) none run) refusal
     (subst (λ (r : List Round). (around_session plan found answers.stuck r).refusal ≡ Some refusal) is h)
 acts_stuck plan found Lists answers kept used now rounds from to are is run refusal h = absurd (none-some refusal h)
+acts_stuck plan found SendsCounts answers kept used now rounds from to are is run refusal h = absurd (none-some refusal h)
 acts_stuck plan found acts answers kept used now rounds from to are is run refusal h =
     worked_has (IsSlotStuck from to) (λ bar call other. absurd (both_ways _ (bar_whole bar) call)) plan found
     (rounds_for (start_plans_of plan.work) acts answers)
@@ -417,6 +418,7 @@ acts_place plan found (SavesAround first place second) answers =
     (λ fault last at e. absurd (no_slot (copy_refusal fault) at (fault_beside fault) e)) answers.stuck
     (λ at stuck none other e. let same : at ≡ other = cc in stuck ∙ ap (λ n. Some n) same)
 acts_place plan found Lists answers = λ refusal h. absurd (none-some refusal h)
+acts_place plan found SendsCounts answers = λ refusal h. absurd (none-some refusal h)
 acts_place plan found acts answers =
     worked_has (IsPlaceOf answers.stuck) (λ bar at e. absurd (no_slot (bar_refusal bar) at (bar_beside bar) e)) plan found
     (rounds_for (start_plans_of plan.work) acts answers)

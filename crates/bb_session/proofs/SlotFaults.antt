@@ -35,7 +35,7 @@ use Rattle.bb_plan.specs.declared.plan.SlotImage.{SlotImage}
 use Rattle.bb_plan.specs.declared.refusal.Refusal.{Refusal}
 use Rattle.bb_plan.specs.declared.refusal.Refusal.TheVariants as refusals
 use Rattle.bb_script_commands.specs.Playing.{course_at, course_end}
-use Rattle.bb_session.specs.Acting.{Acts, AreRoundsOf, IsSavedAround, Lists, Plays, SavesAround, WorkAnswers, bar_refusal, kept_before, place_in, play_of, rounds_for, start_plans_of}
+use Rattle.bb_session.specs.Acting.{Acts, AreRoundsOf, IsSavedAround, Lists, Plays, SavesAround, SendsCounts, WorkAnswers, bar_refusal, kept_before, place_in, play_of, rounds_for, start_plans_of}
 use Rattle.bb_session.specs.Around.{AreRunAround, IsSlotRun, IsSlotRunAfter}
 use Rattle.bb_session.specs.Looking.{passed_in}
 use Rattle.bb_session.specs.Session.{LoadAnswer, acts_after, around_session, loaded_area, session_by_acts, shown, work_session}
@@ -226,6 +226,7 @@ module _ (plan : SessionPlan) (from to : Device) (found : Option (List ℕ)) (an
       work.loaded.later (load_counted plan.keyed gave.area gave.loaded from work.middle work.geometry gave.gave work.loaded.later)) refusal
       (subst (λ (r : List Round). (around_session plan Shown answers.stuck r).refusal ≡ Some refusal) is h)
   acts_lost Lists are is run played refusal h = absurd (none-some refusal h)
+  acts_lost SendsCounts are is run played refusal h = absurd (none-some refusal h)
   acts_lost acts are is run played refusal h =
       worked_has IsSlotLost (λ bar at e. absurd (no_slot (bar_refusal bar) at (bar_beside bar) e)) plan Shown (rounds_for Plans acts answers)
       (λ fault last at e. absurd (no_slot (copy_refusal fault) at (fault_beside fault) e)) acts

@@ -27,7 +27,7 @@ use Rattle.bb_plan.specs.declared.plan.Work.{Work}
 use Rattle.bb_plan.specs.declared.plan.Work.TheVariants.{History, Show}
 use Rattle.bb_plan.specs.declared.refusal.Refusal.{Refusal}
 use Rattle.bb_plan.specs.declared.status.Status.TheVariants as statuses
-use Rattle.bb_session.specs.Acting.{Acts, AreBootRounds, AreRoundsOf, LastOne, Lists, LostPlace, NoneBest, Plays, SavesAround, TableBar, WorkAnswers, acts_of, bar_refusal, kept_before, needs_table, play_of, rounds_for, saves_always, start_plans_of}
+use Rattle.bb_session.specs.Acting.{Acts, AreBootRounds, AreRoundsOf, LastOne, Lists, LostPlace, NoneBest, Plays, SavesAround, SendsCounts, TableBar, WorkAnswers, acts_of, bar_refusal, kept_before, needs_table, play_of, rounds_for, saves_always, start_plans_of}
 use Rattle.bb_session.specs.Looking.{passed_in}
 use Rattle.bb_session.specs.Session.{LoadAnswer, acts_after, around_session, loaded_area, rounds_after, session_by_acts, shown, work_session, worked_on}
 use Rattle.bb_session.specs.Work.{IsTableWork, IsWork}
@@ -188,6 +188,7 @@ module _ (plans : List (Option StartPlan)) (rounds : List Round) (from to : Devi
       (λ fault last e. absurd (not_fault fault e)) answers.stuck (λ at is none e. absurd cc) refusal
       (subst (λ (r : List Round). (around_session plan found answers.stuck r).refusal ≡ Some refusal) is h)
   acted_cause plan found Lists answers are is refusal h = absurd (none-some refusal h)
+  acted_cause plan found SendsCounts answers are is refusal h = absurd (none-some refusal h)
   acted_cause plan found acts answers are is refusal h =
       worked_cause plan found acts are refusal
       (subst (λ (r : List Round). (worked_on plan found acts r).refusal ≡ Some refusal) is h)
