@@ -25,7 +25,7 @@ use Rattle.bb_session.proofs.Kept.{loaded_left}
 use Rattle.bb_session.proofs.Turns.{told_content}
 use Rattle.bb_session.specs.Acting.{AreRoundsOf, WorkAnswers, acts_of, kept_before, needs_table, place_in, saves_always, start_plans_of}
 use Rattle.bb_session.specs.Around.{AreRunAround}
-use Rattle.bb_session.specs.Aging.{AllSavesMade, HasAges, HasCounted, LeavesAges, SavesMade, SendsItsCounts}
+use Rattle.bb_session.specs.Aging.{AllSavesMade, GoesOnLaw, HasAges, HasCounted, LeavesAges, SavesMade, SendsItsCounts}
 use Rattle.bb_session.specs.Looking.{aged_in, passed_in}
 use Rattle.bb_session.specs.Rekeying.{CopyCounts, counts_in}
 use Rattle.bb_session.specs.Session.{LoadAnswer, loaded_area}
@@ -33,7 +33,9 @@ use Rattle.bb_session.specs.SessionTurns.{IsFairRun}
 use Rattle.bb_session.specs.Work.{IsLoadedArea, IsLoadedAs, IsLoadedFor, IsLookWork, IsTableWork, IsWork}
 use Rattle.bb_shell.proofs.Joins.{there}
 use Rattle.bb_shell.specs.Aging.{HoldsTable, KeepsAges}
+use Rattle.bb_state.proofs.KeyChange.{key_changes}
 use Rattle.bb_state.proofs.Showing.{all_show}
+use Rattle.bb_state.specs.KeyChange.{under_both}
 use Rattle.bb_state.specs.Keyed.{Keyed}
 use Rattle.bb_state.specs.Kinds.{laid_form, laid_kinds}
 
@@ -166,6 +168,16 @@ pub leaves_ages : (plan : SessionPlan) (from to : Device) (load : LoadAnswer) (a
 leaves_ages plan from to load answers needs work =
     table_ages plan from to load answers
     (MatchBool-at_true (IsTableWork plan from to load answers) (IsLookWork plan from to load answers) needs work)
+
+-- ---- without the old key
+
+pub goes_on : GoesOnLaw
+goes_on layout new old work from to found answers ages why geometry = λ first e last f fair empty h a marks stands.
+    let keyed : Keyed = under_both layout new old in
+    let page : ages.middle.geometry.page ≡ layout.geometry.page = ap (λ (g : Geometry). g.page) geometry in
+    let young : NoneIsOld (aged_in keyed layout.geometry.page last.image) =
+    subst (λ p. NoneIsOld (aged_in keyed p last.image)) page (ages.ends why first e last f fair) in
+    key_changes.ends layout new old last.image empty h a marks young stands
 
 -- ---- a change of key
 

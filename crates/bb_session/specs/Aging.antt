@@ -7,7 +7,9 @@ use Rattle.bb_copies.specs.Luck.{IsLucky}
 use Rattle.bb_flash.specs.Counted.{EachCounted}
 use Rattle.bb_flash.specs.Cuts.{IsLater}
 use Rattle.bb_flash.specs.Device.{Device, content}
+use Rattle.bb_layout.specs.Layout.{Laid}
 use Rattle.bb_plan.specs.Plan.{SessionPlan}
+use Rattle.bb_plan.specs.declared.plan.Work.{Work}
 use Rattle.bb_session.specs.Acting.{WorkAnswers, kept_before, saves_always}
 use Rattle.bb_session.specs.Looking.{aged_in}
 use Rattle.bb_session.specs.Rekeying.{CopyCounts}
@@ -16,6 +18,7 @@ use Rattle.bb_session.specs.SessionTurns.{IsFairRun}
 use Rattle.bb_session.specs.Work.{IsLoadedFor}
 use Rattle.bb_shell.specs.Boot.{Round}
 use Rattle.bb_shell.specs.Stages.{made_of, saving_rounds}
+use Rattle.bb_state.specs.KeyChange.{StandsUnder, under_both, under_key}
 
 -- rounds began a save, and each that they began answered Ok
 pub record AllSavesMade (kept : Option (List ℕ)) (rounds : List Round) : Type 0 where
@@ -59,6 +62,25 @@ pub record HasAges (plan : SessionPlan) (from to : Device) (found : Option (List
 abbrev pub LeavesAges : SessionPlan → Device → Device → LoadAnswer → WorkAnswers → Type 0
 LeavesAges plan from to (Ok found) answers = HasAges plan from to found answers
 LeavesAges plan from to (Err fault) answers = Unit {0}
+
+-- So the old key can be given up after such a session: what the copies stand for at exit under both
+-- keys they stand for under the new one alone.
+abbrev pub GoesOnLaw : Type 0
+GoesOnLaw =
+    (layout : Laid) (new old : List ℕ) (work : Work) (from to : Device) (found : Option (List ℕ))
+    (answers : WorkAnswers) →
+    let plan : SessionPlan = record { keyed = under_both layout new old; work = work } in
+    (ages : HasAges plan from to found answers) →
+    (ages.counts.old ≡ 0) ⊎ SavesMade plan found answers →
+    ages.middle.geometry ≡ layout.geometry →
+    ForSome ages.middle.told
+    (λ first.
+    ForSome to.told
+    (λ last.
+    IsFairRun plan.keyed ages.middle.geometry.page first last →
+    (empty : List ℕ) (h : List (List ℕ)) (a : ℕ) (marks : List (Option ℕ)) →
+    StandsUnder plan.keyed last.image empty h a marks →
+    StandsUnder (under_key layout new) last.image empty h a marks))
 
 -- The counts that a change of key sends are those of its load, after which no call changed the
 -- device. Where none is old by them, none is at exit.

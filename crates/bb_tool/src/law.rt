@@ -3,6 +3,7 @@ ghost use Rattle.bb_copies.specs.Chronicle.{ChronicleLaw};
 ghost use Rattle.bb_copies.specs.Cutting.{CutLaw};
 ghost use Rattle.bb_shell.specs.Counting.{AttemptsLaw, NoLoadLaw};
 ghost use Rattle.bb_shell.specs.Cutting.{BootCutLaw};
+ghost use Rattle.bb_session.specs.Aging.{GoesOnLaw};
 ghost use Rattle.bb_session.specs.SessionTurns.{BlankLaw, FamilyLaw};
 ghost use Rattle.bb_state.specs.KeyChange.{KeyChangeLaw};
 
@@ -24,11 +25,12 @@ pub fn law_chronicle()
 /// Of a key that is being changed. Where no copy passes under the new key alone, the copies stand
 /// under both keys for what they stand for under the old one: so a chronicle under one key goes on
 /// under the new one and the old one beside it. Where none passes under the old key alone they
-/// stand under the new one alone for what they stand for under both: so it goes on without the old
-/// key after a session that leaves none, as `run` says. No decay makes a copy pass under another
-/// key.
+/// stand under the new one alone for what they stand for under both. So it goes on without the old
+/// key after a session of which `run` says that it leaves none: its load counted none, or it saved,
+/// and each of its saves answered Ok. No decay makes a copy pass under another key.
 pub fn law_rekey()
-    ensures { KeyChangeLaw }
+    ensures change { KeyChangeLaw }
+    ensures goes_on { GoesOnLaw }
 {}
 
 /// Over power-ons in each of which a board boots by the same files, with cuts and decays in
