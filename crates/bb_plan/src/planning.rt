@@ -12,7 +12,7 @@ use crate::menu::read_menu;
 use crate::plan::{PlannedTask, PlannedWork, Work};
 use crate::refusal::Refusal;
 use crate::request::{Request, read_work};
-use bb_base::{Files, TextList};
+use bb_base::{Files, Text, TextList};
 use bb_flash::Geometry;
 use bb_layout::raw_layout;
 use bb_words::{Command, Described, RawAction, RawCommand, read_words};
