@@ -1,5 +1,6 @@
 ghost use Rattle.std.specs.Prelude.{◌≡◌, IfErr, IfOk};
 ghost use Rattle.bb_flash.specs.Geometry.{IsGeometry};
+ghost use Rattle.bb_flash.specs.declared.geometry.Geometry.{Geometry};
 ghost use Rattle.bb_words.specs.Answer.{IsSized, IsSizedRaw};
 ghost use Rattle.bb_plan.specs.Plan.{IsTaskFor, command_reading, described_reading, plan_reading};
 ghost use Rattle.bb_plan.specs.Plan.{menu_task, raw_task, raw_work, task_as};
