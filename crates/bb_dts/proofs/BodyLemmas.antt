@@ -1,15 +1,9 @@
 -- The walk over labels, items and bodies.
-use Rattle.std.proofs.Common.{◌≡◌, ℕ, ◌+◌, ◌<◌, ◌≤◌, map, Bool, true, false, cond, List, [], ◌∷◌, ◌++◌, length, nat_lt, Some, Result, Ok, Err, refl, ap, sym, ◌∙◌, arith}
-use Rattle.std.specs.List.{slice_get}
+use Rattle.std.proofs.Common.{◌≡◌, ℕ, ◌+◌, ◌<◌, ◌≤◌, Bool, true, false, cond, List, [], ◌∷◌, ◌++◌, length, nat_lt, Result, Ok, Err, refl, ap, sym, ◌∙◌, arith}
 use Rattle.std.specs.Option.{option_map}
 use Rattle.std.proofs.lemmas.Bool.Decides.{nat_tests}
-use Rattle.std.proofs.lemmas.List.{map-append}
-use Rattle.bb_tree.specs.declared.draft_prop.DraftProp.{DraftProp}
 use Rattle.bb_tree.specs.Depth.{depth_limit}
 use Rattle.bb_tree.specs.Draft.{Labels}
-use Rattle.bb_tree.specs.DraftViews.{drafts_of}
-use Rattle.bb_tree.specs.Node.{Branch}
-use Rattle.bb_dts.specs.declared.content.Content.{Content}
 use Rattle.bb_tree.specs.declared.part.Part.{Part}
 use Rattle.bb_dts.specs.declared.error.DtsError.{DtsError}
 use Rattle.bb_dts.specs.declared.error.DtsError.TheVariants as refusal
@@ -22,7 +16,7 @@ use Rattle.bb_dts.specs.declared.label.Waiting.{Waiting}
 use Rattle.bb_dts.specs.Tokens.{FoundToken, first_token}
 use Rattle.bb_dts.specs.Places.{Props, PropName, Close, NodeName, mode_of}
 use Rattle.bb_dts.specs.Walk.{WalkState, Refuses, Around, Body, walk_after, state_at, node_of, open_body, Enters, body_at, label_all}
-use Rattle.bb_dts.specs.Descent.{Onward, walk_from, refusal_walk, walk_at_token, walk_by_token, walk_inside, walk_after_body, walk_into_body, OnwardLabels, labels_walk_from, labels_walk_at, labels_refusal_walk, labels_walk_behind, labels_walk_by_token, waiting_at, place_at, items_at, item_walk_at_token, name_walk_from, name_walk_at_token, name_walk_by_token, value_walk_from, close_walk_at_token, close_walk_by_token, walk_after_prop, unless_memory, OnwardValue, value_refusal_walk, body_of}
+use Rattle.bb_dts.specs.Descent.{Onward, walk_from, refusal_walk, walk_at_token, walk_by_token, walk_inside, walk_after_body, walk_into_body, OnwardLabels, labels_walk_from, labels_walk_at, labels_refusal_walk, labels_walk_behind, labels_walk_by_token, waiting_at, place_at, items_at, item_walk_at_token, name_walk_from, name_walk_at_token, name_walk_by_token, value_walk_from, close_walk_at_token, close_walk_by_token, walk_after_prop, unless_memory, OnwardValue, value_refusal_walk}
 use Rattle.bb_dts.proofs.WalkLemmas.{walk_from_step}
 
 label_follows : (total : ℕ) (level : Level) (waiting : List Waiting) (word : List ℕ) (at : ℕ)
@@ -299,23 +293,6 @@ item_unexpected total has_nodes (w ∷ ws) labels body found Label no_name no_la
     absurd (no_label refl)
 item_unexpected total has_nodes (w ∷ ws) labels body found _ no_name no_label no_close = refl
 
-pub body_with_prop : (path : List ℕ) (level : ℕ) (content : Content) (props : List DraftProp)
-    (prop : DraftProp) → props ≡ content.props ++ prop ∷ []
-    → body_of path level (record { props = props; nodes = content.nodes })
-    ≡ record {
-      path = path;
-      level = level;
-      props = map (λ p. (p.name, p.parts)) content.props ++ (prop.name, prop.parts) ∷ [];
-      nodes =
-          drafts_of content.nodes;
-    }
-body_with_prop path level content props prop is = rw is (simp map-append)
-
--- the node's name is at the seam of its path
-pub slash_at_seam : (path name : List ℕ) → slice_get (path ++ 47 ∷ name) (length path) ≡ Some 47
-slash_at_seam [] name = refl
-slash_at_seam (c ∷ path) name = slash_at_seam path name
-
 -- a node that was read: from its `{` to after its `}`
 pub node_read : (total : ℕ) (a : Around) (child : Body) (at : ℕ) (text : List ℕ)
     (known : Result Labels DtsError) (labels labels' : Labels) (body : Body) (rest : List ℕ)
@@ -347,17 +324,6 @@ node_refused total a child at text known labels e is shallow refuses =
     let not_deep : nat_lt depth_limit child.level ≡ false = grind (arith, nat_tests) in
     rw (is, not_deep) (rw (labels_walk_from_props total text labels child) (inside_refusal a e
     (labels_walk_from total AtProps [] text labels child) refuses))
-
-pub body_with_node : (path : List ℕ) (level : ℕ) (content content' : Content)
-    (node : Branch (List Part)) → drafts_of content'.nodes ≡ drafts_of content.nodes ++ node ∷ []
-    → content'.props ≡ content.props → body_of path level content' ≡ record {
-      path = path;
-      level = level;
-      props = map (λ p. (p.name, p.parts)) content.props;
-      nodes =
-          drafts_of content.nodes ++ node ∷ [];
-    }
-body_with_node path level content content' node nodes props = rw (nodes, props) refl
 
 pub close_unexpected : (total : ℕ) (labels : Labels) (body : Body) (found : FoundToken)
     (kind : TokenKind) → (kind ≡ Semicolon → ⊥)

@@ -8,4 +8,6 @@ pub mod WalkLemmas
 pub mod BodyLemmas
 pub mod OuterLemmas
 pub mod CountLemmas
+pub mod Growing
+pub mod Refusing
 pub mod SourceLemmas

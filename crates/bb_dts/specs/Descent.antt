@@ -1,19 +1,17 @@
 -- The walk in the pieces in which a descent goes through it: from a state on, as a function of the
 -- bodies around.
-use Rattle.std.specs.Prelude.{◌≡◌, ℕ, ◌+◌, Bool, false, List, [], ◌∷◌, ◌++◌, length, nat_lt, Option, Some, None, Result, Ok, Err, if◌then◌else◌}
+use Rattle.std.specs.Prelude.{◌≡◌, ℕ, ◌+◌, Bool, true, false, List, [], ◌∷◌, ◌++◌, length, nat_lt, Option, Some, None, Result, Ok, Err, if◌then◌else◌}
 use Rattle.bb_tree.specs.declared.part.Part.{Part}
 use Rattle.bb_tree.specs.Depth.{depth_limit}
 use Rattle.bb_tree.specs.Draft.{Labels}
-use Rattle.bb_tree.specs.DraftViews.{drafts_of, prop_pairs}
 use Rattle.bb_tree.specs.Node.{Branch, Forest, forest, preorder_of}
 use Rattle.bb_dts.specs.declared.error.DtsError.{DtsError}
 use Rattle.bb_dts.specs.declared.error.DtsError.TheVariants as refusal
 use Rattle.bb_dts.specs.declared.token_kind.TokenKind.{TokenKind}
 use Rattle.bb_dts.specs.declared.property.Property.{Property}
 use Rattle.bb_dts.specs.Tokens.{FoundToken}
-use Rattle.bb_dts.specs.declared.content.Content.{Content}
-use Rattle.bb_dts.specs.declared.content.Item.{Item}
-use Rattle.bb_dts.specs.declared.content.Item.TheVariants.{IsProp, IsNode, IsEnd}
+use Rattle.bb_dts.specs.declared.item.Item.{Item}
+use Rattle.bb_dts.specs.declared.item.Item.TheVariants.{IsProp, IsNode, IsEnd}
 use Rattle.bb_dts.specs.declared.label.Level.{Level}
 use Rattle.bb_dts.specs.declared.label.Level.TheVariants.{AtHead, AtTop, AtProps, AtNodes}
 use Rattle.bb_dts.specs.declared.label.Waiting.{Waiting}
@@ -116,26 +114,41 @@ value_walk_at_end total named (Err e) = value_refusal_walk e
 abbrev pub node_count : Forest (List Part) → ℕ
 node_count nodes = length (preorder_of nodes)
 
+-- what is read of a body: its properties and its nodes
+pub record BodyContent : Type 0 where
+  pub props : List (List ℕ × List Part)
+  pub nodes : List (Branch (List Part))
+
+abbrev pub no_content : BodyContent
+no_content = record { props = []; nodes = [] }
+
+abbrev pub content_prop : List ℕ → List Part → BodyContent
+content_prop name parts = record { props = (name, parts) ∷ []; nodes = [] }
+
+abbrev pub more_content : BodyContent → BodyContent → BodyContent
+more_content before more =
+    record { props = before.props ++ more.props; nodes = before.nodes ++ more.nodes }
+
 -- how many nodes were read of a body
-abbrev pub nodes_read : Content → ℕ
-nodes_read content = node_count (forest (drafts_of content.nodes))
+abbrev pub nodes_read : BodyContent → ℕ
+nodes_read content = node_count (forest content.nodes)
 
 -- a body from what was read of it
-abbrev pub body_of : List ℕ → ℕ → Content → Body
+abbrev pub body_of : List ℕ → ℕ → BodyContent → Body
 body_of path level content = record {
   path = path;
   level = level;
-  props = prop_pairs content.props;
-  nodes = drafts_of content.nodes;
+  props = content.props;
+  nodes = content.nodes;
 }
 
 -- a node of that name with what was read of its body
-abbrev pub node_of_content : List ℕ → Content → Branch (List Part)
-node_of_content name content = record {
-  name = name;
-  props = prop_pairs content.props;
-  nodes = forest (drafts_of content.nodes);
-}
+abbrev pub node_of_content : List ℕ → BodyContent → Branch (List Part)
+node_of_content name content =
+    record { name = name; props = content.props; nodes = forest content.nodes }
+
+abbrev pub content_node : List ℕ → BodyContent → BodyContent
+content_node name content = record { props = []; nodes = node_of_content name content ∷ [] }
 
 -- where labels may begin, the place with those that wait already
 abbrev pub place_at : Level → List Waiting → Place
@@ -186,6 +199,15 @@ labels_walk_by_token total level waiting (Err e) = labels_refusal_walk e
 -- the places of a body's items: its properties, and after the first node its nodes
 abbrev pub items_at : Bool → Level
 items_at has_nodes = if has_nodes then AtNodes else AtProps
+
+-- whether an item is the end of a body, and whether it is a node
+abbrev pub ends_body : Item → Bool
+ends_body IsEnd = true
+ends_body _ = false
+
+abbrev pub is_node : Item → Bool
+is_node IsNode = true
+is_node _ = false
 
 -- the walk after an item of a body
 abbrev pub walk_after_item : ℕ → Item → Labels → Body → List ℕ → Onward

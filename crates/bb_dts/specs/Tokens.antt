@@ -3,6 +3,7 @@ use Rattle.std.specs.Prelude.{ℕ, ◌+◌, ◌-◌, ◌<◌, suc, zero, Bool, t
 use Rattle.std.specs.List.{list_any, prefix_len, starts_with}
 use Rattle.std.specs.Option.{option_map}
 use Rattle.std.specs.Str.{bytes_eq, IsAscii}
+use Rattle.bb_tree.specs.Places.{IsPathName}
 use Rattle.bb_dts.specs.declared.error.DtsError.{DtsError}
 use Rattle.bb_dts.specs.declared.error.DtsError.TheVariants as refusal
 use Rattle.bb_dts.specs.declared.token_kind.TokenKind.{TokenKind}
@@ -148,11 +149,16 @@ word_of Label bytes = take (length bytes - 1) bytes
 word_of Quoted bytes = take (length bytes - 2) (drop 1 bytes)
 word_of _ bytes = bytes
 
+-- a word that names a node or a property: ASCII, and one that a path can go through
+pub record IsNameWord (word : List ℕ) : Type 0 where
+  pub ascii : IsAscii word
+  pub path : IsPathName word
+
 -- a token that names something is ASCII
 abbrev pub IsPlainWord : TokenKind → List ℕ → Type 0
 IsPlainWord Reference word = IsAscii word
 IsPlainWord Label word = IsAscii word
-IsPlainWord Name word = IsAscii word
+IsPlainWord Name word = IsNameWord word
 IsPlainWord _ word = Unit {0}
 
 -- the same of what a text begins with

@@ -5,9 +5,9 @@
 
 mod body;
 mod character;
-mod content;
 mod error;
 mod input;
+mod item;
 mod label;
 mod next_token;
 mod number;

@@ -1,11 +1,9 @@
 ghost use Rattle.std.specs.Prelude.{◌≡◌, ◌≢◌, ◌≤◌, ◌<◌, ◌+◌, [], Ok, Err, Some, None, IfOk, IfErr};
 ghost use Rattle.std.specs.Prelude.{OnOk, length};
 ghost use Rattle.std.specs.Str.{IsAscii};
-ghost use Rattle.std.specs.String.{string_bytes};
-ghost use Rattle.bb_tree.specs.Draft.{path_labelled, draft_with_body, draft_with_pair};
-ghost use Rattle.bb_tree.specs.DraftViews.{draft_of};
-ghost use Rattle.bb_dts.specs.Walk.{stem_of};
-ghost use Rattle.bb_dts.specs.Descent.{node_count, node_of_content, RefusesResult};
+ghost use Rattle.bb_tree.specs.Draft.{path_labelled, draft_with_pair};
+ghost use Rattle.bb_tree.specs.Placed.{placed_with};
+ghost use Rattle.bb_dts.specs.Descent.{node_count, RefusesResult};
 ghost use Rattle.bb_dts.specs.Outermost.{outer_level, rest_len, led_to, semicolon_of, StaysAtHead};
 ghost use Rattle.bb_dts.specs.Outermost.{IsShorter};
 ghost use Rattle.bb_dts.specs.Tokens.{first_token, token_seen, IsPlainWord};
@@ -13,17 +11,14 @@ ghost use Rattle.bb_dts.specs.declared.token_kind.TokenKind.TheVariants.{Label};
 ghost use Rattle.bb_dts.specs.declared.label.Level.TheVariants.{AtHead, AtTop};
 
 use crate::DtsError;
-use crate::content::Content;
 use crate::input::Input;
 use crate::label::{Level, Waiting, read_labels};
 use crate::next_token::{Token, next_token};
-use crate::reader::{Reader, path_text};
+use crate::reader::Reader;
 use crate::reserve::read_reserved;
 use crate::token_kind::{Mode, TokenKind};
 use crate::word::word_str;
-use bb_base::Text;
-use bb_tree::{DEPTH_LIMIT, Draft, DraftNode};
-use std::mem;
+use bb_tree::DEPTH_LIMIT;
 
 /// What comes after a step at the outermost level.
 #[derive(Clone, Copy)]
@@ -37,7 +32,7 @@ pub(crate) enum Next<'a> {
 }
 
 impl Reader {
-    ghost use Rattle.bb_dts.specs.Readers.{TreeAddsFewNodes, node_path, source_end};
+    ghost use Rattle.bb_dts.specs.Readers.{IsAtNode, TreeAddsFewNodes, source_end, stem};
     ghost use Rattle.bb_dts.specs.Readers.{source_end_after_body, source_end_after_step};
     ghost use Rattle.bb_dts.specs.Readers.{source_end_at_address, source_end_at_body};
     ghost use Rattle.bb_dts.specs.Readers.{source_end_at_token, source_end_in_body};
@@ -48,8 +43,8 @@ impl Reader {
         requires { length text.now ≤ self.old.input.total }
         ensures ok { OnOk result
             (source_end self.old AtHead text.now ≡ tree_read self.old self.new) }
-        ensures counted { OnOk result (node_count self.new.draft.tree.nodes
-            ≤ node_count self.old.draft.tree.nodes + length text.now) }
+        ensures counted { OnOk result (node_count self.new.draft.draft.tree.nodes
+            ≤ node_count self.old.draft.draft.tree.nodes + length text.now) }
         ensures input { OnOk result (self.new.input ≡ self.old.input) }
         ensures refused { IfErr result (RefusesResult (source_end self.old AtHead text.now)) }
     {
@@ -112,7 +107,7 @@ impl Reader {
             TokenKind::End if at_top && waiting.is_empty() => Ok(Next::IsDone),
             TokenKind::Memreserve if !at_top => Ok(Next::IsHead(self.read_reserve(token.rest)?)),
             TokenKind::Slash => {
-                self.path.clear();
+                self.go_to_root();
                 Ok(Next::IsTop(self.read_top(1, waiting, token.rest)?))
             }
             TokenKind::Reference => {
@@ -129,7 +124,7 @@ impl Reader {
         requires { length text.now ≤ self.old.input.total }
         ensures ok { IfOk result (λ rest. source_end_at_address self.old text.now
             ≡ source_end_read self.old self.new AtHead rest.now) }
-        ensures tree { OnOk result (self.new.draft.tree ≡ self.old.draft.tree) }
+        ensures tree { OnOk result (self.new.draft.draft.tree ≡ self.old.draft.draft.tree) }
         ensures input { OnOk result (self.new.input ≡ self.old.input) }
         ensures refused { IfErr result (RefusesResult (source_end_at_address self.old text.now)) }
         ensures shorter { IfOk result (λ rest. length rest.now < length text.now) }
@@ -141,18 +136,16 @@ impl Reader {
     }
 
     fn reserve(&mut self, address: u64, length: u64) -> Result<(), DtsError>
-        ensures ok { OnOk result (self.new.draft ≡ draft_with_pair self.old.draft address length) }
+        ensures ok { OnOk result (self.new.draft ≡ placed_with self.old.draft
+            (draft_with_pair self.old.draft.draft address length)) }
         ensures input { OnOk result (self.new.input ≡ self.old.input) }
         ensures only_memory { IfErr result (λ e. e ≡ DtsError.NoMemory) }
     {
-        match self.draft.reserve(address, length) {
-            Ok(()) => Ok(()),
-            Err(_) => Err(DtsError::NoMemory),
-        }
+        self.draft.reserve(address, length)?;
+        Ok(())
     }
 
-    // Reads a body at the outermost level, with its braces and its `;`, and merges it into the node
-    // at the path.
+    // Reads a body at the outermost level, with its braces and its `;`, into the node at hand.
     #[tactic(auto, using(crate::proofs::OuterLemmas::open_step, crate::proofs::OuterLemmas::outcome_after_body, crate::proofs::OuterLemmas::top_close_step))]
     fn read_top<'a>(
         &mut self,
@@ -160,7 +153,8 @@ impl Reader {
         waiting: &Vec<Waiting>,
         text: &'a [u8],
     ) -> Result<&'a [u8], DtsError>
-        requires { length text.now ≤ self.old.input.total }
+        requires within { length text.now ≤ self.old.input.total }
+        requires placed { IsAtNode self.old }
         ensures ok { IfOk result (λ rest.
             source_end_at_body self.old level waiting.now.items text.now
             ≡ source_end_read self.old self.new AtTop rest.now) }
@@ -182,7 +176,7 @@ impl Reader {
         }
     }
 
-    // Reads a body at the outermost level, after its `{`, and merges it.
+    // Reads a body at the outermost level, after its `{`.
     #[tactic(auto, using(crate::proofs::OuterLemmas::outcome_after_body))]
     fn read_top_body<'a>(
         &mut self,
@@ -190,7 +184,8 @@ impl Reader {
         at: usize,
         text: &'a [u8],
     ) -> Result<&'a [u8], DtsError>
-        requires { length text.now ≤ self.old.input.total }
+        requires within { length text.now ≤ self.old.input.total }
+        requires placed { IsAtNode self.old }
         ensures ok { IfOk result (λ rest. source_end_in_body self.old level at text.now
             ≡ source_end_after_body self.old self.new rest.now) }
         ensures counted { IfOk result
@@ -203,46 +198,38 @@ impl Reader {
         if level > DEPTH_LIMIT {
             return Err(DtsError::TooDeep(at));
         }
-        let (content, rest) = self.read_body(level, text)?;
-        self.merge(content)?;
+        let rest = self.read_body(level, text)?;
         Ok(rest)
     }
 
-    // Merges a body into the node at the path.
-    fn merge(&mut self, content: Content) -> Result<(), DtsError>
-        ensures draft { OnOk result (self.new.draft
-            ≡ draft_with_body self.old.draft (node_path self.old) (node_of_content [] content)) }
-        ensures input { OnOk result (self.new.input ≡ self.old.input) }
-        ensures only_memory { IfErr result (λ e. e ≡ DtsError.NoMemory) }
+    // Goes to the root.
+    fn go_to_root(&mut self)
+        ensures stem { stem self.new ≡ [] }
+        ensures placed { IsAtNode self.new }
+        ensures draft { self.new.draft ≡ self.old.draft }
+        ensures input { self.new.input ≡ self.old.input }
     {
-        let alloc = self.input.alloc;
-        let name = Text::of(alloc, "")?;
-        let Content { props, nodes } = content;
-        let node = DraftNode { name, props, nodes };
-        let draft = mem::replace(&mut self.draft, Draft::none(alloc));
-        self.draft = with_body(draft, path_text(&self.path), node)?;
-        Ok(())
+        self.at = self.draft.root();
     }
 
     // Goes to the node that a reference names, and gives its level.
     fn go_to(&mut self, label: &[u8], at: usize) -> Result<usize, DtsError>
         requires { IsAscii label.now }
         ensures ok { IfOk result (λ level.
-            led_to (path_labelled self.old.draft.labels label.now)
-            ≡ Some (string_bytes self.new.path, level)) }
+            led_to (path_labelled self.old.draft.draft.labels label.now)
+            ≡ Some (stem self.new, level)) }
+        ensures placed { OnOk result (IsAtNode self.new) }
         ensures draft { OnOk result (self.new.draft ≡ self.old.draft) }
         ensures input { OnOk result (self.new.input ≡ self.old.input) }
-        ensures refused { IfErr result (λ e. e ≢ DtsError.NoMemory → e ≡ DtsError.NoSuchLabel at) }
+        ensures refused { IfErr result (λ e. e ≡ DtsError.NoSuchLabel at) }
         ensures unknown { IfErr result
-            (λ e. e ≢ DtsError.NoMemory → path_labelled self.old.draft.labels label.now ≡ None) }
+            (λ e. path_labelled self.old.draft.draft.labels label.now ≡ None) }
     {
-        let Some(path) = self.draft.by_label(word_str(label)) else {
+        let Some(place) = self.draft.by_label(word_str(label)) else {
             return Err(DtsError::NoSuchLabel(at));
         };
-        let stem = stem_of(path.as_str());
-        self.path.clear();
-        self.path.push_str(stem)?;
-        Ok(1 + self.path.as_bytes().iter().filter(|c| **c == b'/').count())
+        self.at = place;
+        Ok(1 + self.draft.depth(place))
     }
 }
 
@@ -264,27 +251,5 @@ pub(crate) fn read_semicolon(mode: Mode, input: Input, text: &[u8]) -> Result<&[
     match token.kind {
         TokenKind::Semicolon => Ok(token.rest),
         _ => Err(DtsError::Unexpected(token.at)),
-    }
-}
-
-// A path's text as a body has it.
-fn stem_of(path: &str) -> &str
-    ensures { result.now ≡ stem_of path.now }
-{
-    if path == "/" { "" } else { path }
-}
-
-// The draft with a body merged into the node at the path. Where no node stands there nothing is
-// merged.
-fn with_body(draft: Draft, path: &str, node: DraftNode) -> Result<Draft, DtsError>
-    ensures ok { IfOk result (λ d. d ≡ draft_with_body draft path.now (draft_of node)) }
-    ensures only_memory { IfErr result (λ e. e ≡ DtsError.NoMemory) }
-{
-    if !draft.has(path) {
-        return Ok(draft);
-    }
-    match draft.merge(path, node) {
-        Ok(draft) => Ok(draft),
-        Err(_) => Err(DtsError::NoMemory),
     }
 }

@@ -1,7 +1,7 @@
 ghost use Rattle.std.specs.Prelude.{◌≡◌, ◌+◌, ◌≤◌, [], Ok, IfOk, IfErr, length};
 ghost use Rattle.bb_tree.specs.Blob.{devicetree_of};
-ghost use Rattle.bb_tree.specs.Draft.{empty_draft};
 ghost use Rattle.bb_tree.specs.Node.{preorder};
+ghost use Rattle.bb_tree.specs.Placed.{empty_placed};
 ghost use Rattle.bb_dts.specs.declared.label.Level.TheVariants.{AtHead};
 ghost use Rattle.bb_dts.specs.Descent.{walk_from, refusal_walk, labels_walk_from};
 ghost use Rattle.bb_dts.specs.Outermost.{tree_of_draft};
@@ -15,7 +15,7 @@ use crate::next_token::next_token;
 use crate::outermost::read_semicolon;
 use crate::reader::Reader;
 use crate::token_kind::{Mode, TokenKind};
-use bb_tree::{Draft, Tree, TreeError};
+use bb_tree::{PlacedDraft, Tree, TreeError};
 use std::alloc::Global;
 use std::str;
 
@@ -65,26 +65,26 @@ fn read_version(input: Input, text: &[u8]) -> Result<&[u8], DtsError>
 impl Reader {
     fn new(input: Input) -> Reader
         ensures input { result.input ≡ input }
-        ensures draft { result.draft ≡ empty_draft }
+        ensures draft { result.draft ≡ empty_placed }
     {
         Reader {
             input,
-            draft: Draft::none(input.alloc),
-            path: String::new(input.alloc),
+            draft: PlacedDraft::none(input.alloc),
+            at: 0,
         }
     }
 
     // The tree, with its references resolved.
     fn finish(self) -> Result<Tree, DtsError>
-        requires { length (preorder self.draft.tree) ≤ 4294967294 }
+        requires { length (preorder self.draft.draft.tree) ≤ 4294967294 }
         ensures ok { IfOk result
-            (λ tree. tree_of_draft self.input.total self.draft ≡ Ok (devicetree_of tree)) }
-        ensures refused { IfErr result (Refuses (tree_of_draft self.input.total self.draft)) }
+            (λ tree. tree_of_draft self.input.total self.draft.draft ≡ Ok (devicetree_of tree)) }
+        ensures refused { IfErr result (Refuses (tree_of_draft self.input.total self.draft.draft)) }
     {
         let Reader {
             input,
             draft,
-            path: _,
+            at: _,
         } = self;
         match draft.finish() {
             Ok(tree) => Ok(tree),

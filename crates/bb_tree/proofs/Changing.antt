@@ -50,7 +50,7 @@ pub record KeepsPlace (s t : Slot) : Type 0 where
   pub name : t.name ≡ s.name
   pub table : table_in t ≡ table_in s
 
-spine-set : (slots : List Slot) (k : ℕ) (s t : Slot) → slice_get slots k ≡ Some s → KeepsPlace s t
+pub spine-set : (slots : List Slot) (k : ℕ) (s t : Slot) → slice_get slots k ≡ Some s → KeepsPlace s t
     → spine (set slots k t) ≡ spine slots
 spine-set [] k s t h p = refl
 spine-set (x ∷ slots) zero s t h p = refl
@@ -278,6 +278,18 @@ shown_kept f slots k s t h e j =
       | inr q ↦ ap (λ o. option_map_or f o []) (slice_get-set_other slots k j t q)
     ]
 
+-- the spine with one more slot
+pub spine-grown : (slots : List Slot) (k : ℕ) (name : List ℕ) (s t x : Slot)
+    → slice_get slots k ≡ Some s → IsBare k name x → t.parent ≡ s.parent → t.name ≡ s.name
+    → spine (set (slots ++ x ∷ []) k t) ≡ spine slots ++ (k, name) ∷ []
+spine-grown slots k name s t x h b e_parent e_name =
+    let pushed = slots ++ x ∷ [] in
+    let there : slice_get pushed k ≡ Some s =
+    slice_get-append_left slots (x ∷ []) k (slice_get_within slots k s h) ∙ h in
+    spine_kept pushed k s t there e_parent e_name
+    ∙ spine-push slots x (omega (arith, slice_get_within slots k s h))
+    ∙ ap (λ p. spine slots ++ p ∷ []) (ap (λ a. (a, x.name)) b.parent ∙ ap (λ a. (k, a)) b.named)
+
 tables_new : (slots : List Slot) (k : ℕ) (name : List ℕ) (s t x : Slot) → slice_get slots k ≡ Some s
     → IsSound slots → IsBare k name x → table_in t ≡ table_in s ++ (name, length slots) ∷ []
     → 1 + length (spine slots) ≡ length slots →
@@ -318,8 +330,7 @@ HasChild-new slots k name s t x h sound b free e_parent e_name e_props e_table =
     let there : slice_get pushed k ≡ Some s = slice_get-append_left slots (x ∷ []) k within ∙ h in
     let count : 1 + length (spine slots) ≡ length slots = length_spine slots (omega arith) in
     let spine_is : spine new ≡ spine slots ++ (k, name) ∷ [] =
-    spine_kept pushed k s t there e_parent e_name ∙ spine-push slots x (omega arith)
-    ∙ ap (λ p. spine slots ++ p ∷ []) (ap (λ a. (a, x.name)) b.parent ∙ ap (λ a. (k, a)) b.named) in
+    spine-grown slots k name s t x h b e_parent e_name in
     let props_are : (j : ℕ) → props_at new j ≡ props_at slots j = λ j.
     shown_kept props_in pushed k s t there e_props j ∙ shown_push props_in slots x b.props j in
     let none : ℕ → Forest (List Part) = λ _. empty in

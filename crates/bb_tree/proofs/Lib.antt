@@ -14,5 +14,6 @@ pub mod Takings
 pub mod Numbering
 pub mod Numbered
 pub mod Resolving
+pub mod Placing
 pub mod Counting
 pub mod Lengths

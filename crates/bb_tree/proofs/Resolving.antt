@@ -169,13 +169,14 @@ order_facts slots a old new e f h =
     subst (λ (s : List Slot). map (props_at s) new ≡ map (props_at s) old ++ props_below s 0) e h
     ∙ ap (λ (l : List ℕ). map (props_at slots) l ++ props_below slots 0) f
 
-pub survey_facts : (labels : Labels) (slots a : List Slot) (order b old new : List ℕ)
+pub survey_facts : (known : List Slot → Labels) (slots a : List Slot) (order b old new : List ℕ)
     (r : Result (Unit {0}) TreeError) → a ≡ slots → b ≡ order
     → map (props_at slots) order ≡ props_below slots 0 → old ≡ []
-    → Surveys labels a (flat_map references_of_props (map (props_at a) b)) old new r
-    → Surveys labels slots (references (slots_tree slots)) [] new r
-survey_facts labels slots a order b old new r e f o g h =
-    let h1 = subst (λ (s : List Slot). Surveys labels s (flat_map references_of_props (map
+    → Surveys (known a) a (flat_map references_of_props (map (props_at a) b)) old new r
+    → Surveys (known slots) slots (references (slots_tree slots)) [] new r
+survey_facts known slots a order b old new r e f o g h =
+    let labels = known slots in
+    let h1 = subst (λ (s : List Slot). Surveys (known s) s (flat_map references_of_props (map
     (props_at s) b)) old new r) e h in
     let h2 = subst (λ (l : List ℕ). Surveys labels slots (flat_map references_of_props (map
     (props_at slots) l)) old new r) f h1 in

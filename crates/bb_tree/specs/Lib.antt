@@ -9,6 +9,7 @@ pub mod Paths
 pub mod Merge
 pub mod Phandle
 pub mod Draft
+pub mod Placed
 pub mod Resolve
 pub mod Refusals
 pub mod Blob
@@ -16,7 +17,11 @@ pub mod Blob
 pub mod Texts
 pub mod Spine
 pub mod Slots
+pub mod Places
+pub mod Known
 pub mod DraftView
+pub mod PlacedView
+pub mod PlacedCode
 pub mod DraftCode
 pub mod SlotValues
 pub mod Taking

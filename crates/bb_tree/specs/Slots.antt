@@ -91,6 +91,7 @@ pub record IsRooted (old new : List Slot) : Type 0 where
   pub sound : IsSound new
   pub some : 0 < length new
   pub same : slots_tree new ≡ slots_tree old
+  pub spine_is : spine new ≡ spine old
 
 -- the properties of a slot and of all slots under it, in preorder
 abbrev pub props_below : List Slot → ℕ → List (List (List ℕ × List Part))

@@ -4,6 +4,7 @@ ghost use Rattle.std.specs.Option.{option_copied};
 ghost use Rattle.bb_tree.specs.Draft.{path_labelled};
 ghost use Rattle.bb_tree.specs.Texts.{labels_in};
 
+use crate::known::KnownLabels;
 use crate::merge::merge_into;
 use crate::place::{slot_at, with_root};
 use crate::resolve::number_references;
@@ -148,9 +149,10 @@ impl Draft {
             reserved,
         } = self;
         with_root(alloc, &mut slots)?;
-        number_references(alloc, &mut slots, &labels)?;
+        let known = KnownLabels::ByPath(&labels);
+        number_references(alloc, &mut slots, &known)?;
         let name = Text::of(alloc, "")?;
-        let root = node_of(alloc, slots.as_slice(), &labels, 0, name)?;
+        let root = node_of(alloc, slots.as_slice(), &known, 0, name)?;
         Ok(Tree { root, reserved })
     }
 }

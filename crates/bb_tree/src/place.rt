@@ -1,9 +1,10 @@
-ghost use Rattle.std.specs.Prelude.{◌≡◌, ◌<◌, OnOk, IfOk, vec_len};
+ghost use Rattle.std.specs.Prelude.{◌≡◌, ◌<◌, OnOk, IfOk, length, vec_len};
 ghost use Rattle.std.specs.Map.{lookup};
 ghost use Rattle.std.specs.Str.{bytes_eq};
 ghost use Rattle.bb_tree.specs.Paths.{names_between};
+ghost use Rattle.bb_tree.specs.Places.{places, names_to, GrowsBy};
 ghost use Rattle.bb_tree.specs.Slots.{IsSound, IsRooted, Changes, HasChild, slot_at_path};
-ghost use Rattle.bb_tree.specs.Slots.{slot_through, table_at, with_prop};
+ghost use Rattle.bb_tree.specs.Slots.{slot_through, spine, table_at, with_prop};
 
 use crate::DraftProp;
 use crate::slot::Slot;
@@ -36,8 +37,9 @@ pub(crate) fn put_prop(
 ) -> Result<(), NoMemory>
     requires within { k < vec_len slots.old }
     requires sound { IsSound slots.old.items }
-    ensures { OnOk result
+    ensures changes { OnOk result
         (Changes k (with_prop prop.name prop.parts) slots.old.items slots.new.items) }
+    ensures spine { OnOk result (spine slots.new.items ≡ spine slots.old.items) }
 {
     let DraftProp { name, parts } = prop;
     let key = String::from_str(alloc, name.as_str())?;
@@ -76,7 +78,8 @@ pub(crate) fn child_or_new(
 ) -> Result<usize, NoMemory>
     requires within { k < vec_len slots.old }
     requires sound { IsSound slots.old.items }
-    ensures { IfOk result (λ c. HasChild k c name slots.old.items slots.new.items) }
+    ensures child { IfOk result (λ c. HasChild k c name slots.old.items slots.new.items) }
+    ensures grows { IfOk result (λ c. GrowsBy k c name slots.old.items slots.new.items) }
 {
     if let Some(c) = child_at(slots, k, name.as_str()) {
         return Ok(c);
@@ -117,4 +120,20 @@ fn slot_behind(slots: &[Slot], names: &str) -> Option<usize>
         k = child_at(slots, k, name)?;
     }
     Some(k)
+}
+
+/// How many names lead to the node at `k`.
+pub(crate) fn depth(slots: &[Slot], k: usize) -> usize
+    requires within { k < length (places slots.now) }
+    requires sound { IsSound slots.now }
+    ensures { result ≡ length (names_to slots.now k) }
+{
+    let mut depth = 0;
+    let mut at = k;
+    while at != 0 {
+        let slot = &slots[at];
+        at = slot.parent;
+        depth += 1;
+    }
+    depth
 }

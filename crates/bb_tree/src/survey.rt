@@ -2,25 +2,26 @@ ghost use Rattle.std.specs.Prelude.{◌≡◌, ◌++◌, ◌∷◌, [], OnOk, If
 ghost use Rattle.bb_tree.specs.SlotValues.{Surveys, references_at, references_of_part};
 ghost use Rattle.bb_tree.specs.SlotValues.{references_of_props, references_of_value};
 ghost use Rattle.bb_tree.specs.Slots.{IsSound, props_at};
-ghost use Rattle.bb_tree.specs.Texts.{labels_in};
+ghost use Rattle.bb_tree.specs.Known.{known_in, HavePathsBack};
 
+use crate::known::KnownLabels;
+use crate::label::label_slot;
 use crate::slot::Slot;
-use crate::value::label_slot;
 use crate::write::{count_props, nth_prop};
 use crate::{Part, PartList, TreeError};
-use bb_base::{NoMemory, Text};
-use indexmap::IndexMap;
+use bb_base::NoMemory;
 
 /// Adds the slots that the references inside `< >` lead to, in the order of resolving.
 /// `NoSuchLabel` with the first reference of all whose label names no node.
 pub(crate) fn survey(
     slots: &[Slot],
-    labels: &IndexMap<String, Text>,
+    labels: &KnownLabels<'_>,
     order: &[usize],
     targets: &mut Vec<usize>,
 ) -> Result<(), TreeError>
-    requires { IsSound slots.now }
-    ensures { Surveys (labels_in labels.now) slots.now (references_at slots.now order.now)
+    requires sound { IsSound slots.now }
+    requires placed { HavePathsBack slots.now labels.now }
+    ensures { Surveys (known_in slots.now labels.now) slots.now (references_at slots.now order.now)
         targets.old.items targets.new.items result }
 {
     for k in order {
@@ -31,13 +32,14 @@ pub(crate) fn survey(
 
 fn survey_props(
     slots: &[Slot],
-    labels: &IndexMap<String, Text>,
+    labels: &KnownLabels<'_>,
     k: usize,
     targets: &mut Vec<usize>,
 ) -> Result<(), TreeError>
-    requires { IsSound slots.now }
-    ensures { Surveys (labels_in labels.now) slots.now (references_of_props (props_at slots.now k))
-        targets.old.items targets.new.items result }
+    requires sound { IsSound slots.now }
+    requires placed { HavePathsBack slots.now labels.now }
+    ensures { Surveys (known_in slots.now labels.now) slots.now
+        (references_of_props (props_at slots.now k)) targets.old.items targets.new.items result }
 {
     for i in 0..count_props(slots, k) {
         let Some((_name, parts)) = nth_prop(slots, k, i) else {
@@ -50,12 +52,13 @@ fn survey_props(
 
 fn survey_parts(
     slots: &[Slot],
-    labels: &IndexMap<String, Text>,
+    labels: &KnownLabels<'_>,
     parts: &PartList,
     targets: &mut Vec<usize>,
 ) -> Result<(), TreeError>
-    requires { IsSound slots.now }
-    ensures { Surveys (labels_in labels.now) slots.now (references_of_value parts.now)
+    requires sound { IsSound slots.now }
+    requires placed { HavePathsBack slots.now labels.now }
+    ensures { Surveys (known_in slots.now labels.now) slots.now (references_of_value parts.now)
         targets.old.items targets.new.items result }
 {
     for part in parts.as_slice() {
@@ -66,12 +69,13 @@ fn survey_parts(
 
 fn survey_part(
     slots: &[Slot],
-    labels: &IndexMap<String, Text>,
+    labels: &KnownLabels<'_>,
     part: &Part,
     targets: &mut Vec<usize>,
 ) -> Result<(), TreeError>
-    requires { IsSound slots.now }
-    ensures { Surveys (labels_in labels.now) slots.now (references_of_part part.now)
+    requires sound { IsSound slots.now }
+    requires placed { HavePathsBack slots.now labels.now }
+    ensures { Surveys (known_in slots.now labels.now) slots.now (references_of_part part.now)
         targets.old.items targets.new.items result }
 {
     match part {

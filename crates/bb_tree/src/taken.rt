@@ -2,7 +2,7 @@ ghost use Rattle.std.specs.Prelude.{List, ℕ, codes, vec_len, IfOk, ◌≡◌, 
 ghost use Rattle.std.specs.Prelude.{◌∷◌, [], false, IfSome, OnOk};
 ghost use Rattle.bb_tree.specs.Resolve.{phandle_value};
 ghost use Rattle.bb_tree.specs.SlotValues.{phandles_at};
-ghost use Rattle.bb_tree.specs.Slots.{IsSound};
+ghost use Rattle.bb_tree.specs.Slots.{IsSound, spine};
 ghost use Rattle.bb_tree.specs.Taking.{GivesPhandles, IsNumbered, AreTaken, LeadAll, TakesPhandle};
 ghost use Rattle.bb_tree.specs.Taking.{TakesAll};
 ghost use Rattle.bb_tree.specs.Taking.{TakenBelow, is_taken};
@@ -86,8 +86,9 @@ pub(crate) fn give_phandle(
     requires sound { IsSound slots.old.items }
     requires some { 1 ≤ from }
     requires below { TakenBelow taken.old.keys from }
-    ensures { IfOk result
+    ensures gives { IfOk result
         (λ n. GivesPhandles k slots.old.items slots.new.items taken.old.keys taken.new.keys n) }
+    ensures spine { OnOk result (spine slots.new.items ≡ spine slots.old.items) }
 {
     if phandle_at(alloc, slots.as_slice(), k)?.is_some() {
         return Ok(from);
@@ -124,7 +125,8 @@ pub(crate) fn number_targets(
     requires rooted { 0 < vec_len slots.old }
     requires led { (names : List (List (List ℕ))) × LeadAll slots.old.items names targets.now }
     requires taken { AreTaken slots.old.items taken.old.keys }
-    ensures { OnOk result (IsNumbered targets.now slots.old.items slots.new.items) }
+    ensures numbered { OnOk result (IsNumbered targets.now slots.old.items slots.new.items) }
+    ensures spine { OnOk result (spine slots.new.items ≡ spine slots.old.items) }
 {
     let mut from = 1;
     for k in targets {

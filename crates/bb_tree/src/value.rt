@@ -3,19 +3,18 @@ ghost use Rattle.std.specs.Int.{to_be_bytes, w32};
 ghost use Rattle.std.specs.Map.{lookup};
 ghost use Rattle.std.specs.Option.{option_copied};
 ghost use Rattle.std.specs.Str.{bytes_eq};
-ghost use Rattle.bb_tree.specs.Draft.{path_labelled};
 ghost use Rattle.bb_tree.specs.Resolve as resolve;
-ghost use Rattle.bb_tree.specs.SlotValues.{cell_labelled, part_in, phandle_at, slot_labelled};
+ghost use Rattle.bb_tree.specs.SlotValues.{cell_labelled, part_in, phandle_at};
 ghost use Rattle.bb_tree.specs.SlotValues.{slot_value};
 ghost use Rattle.bb_tree.specs.Slots.{IsSound, props_at};
-ghost use Rattle.bb_tree.specs.Texts.{labels_in};
+ghost use Rattle.bb_tree.specs.Known.{known_in, HavePathsBack};
 
+use crate::known::KnownLabels;
+use crate::label::{add_path, label_slot, with_more};
 use crate::phandle::phandle_in;
-use crate::place::slot_at;
 use crate::slot::Slot;
 use crate::{Part, PartList};
-use bb_base::{Bytes, NoMemory, Text};
-use indexmap::IndexMap;
+use bb_base::{Bytes, NoMemory};
 use std::alloc::Global;
 
 /// The bytes of a value that are there before anything is resolved.
@@ -55,28 +54,17 @@ fn parts_of<'a>(slots: &'a [Slot], k: usize, name: &str) -> Option<&'a PartList>
     slots.get(k)?.props.get(name)
 }
 
-/// Where the node that a label stands for is.
-pub(crate) fn label_slot(
-    slots: &[Slot],
-    labels: &IndexMap<String, Text>,
-    label: &str,
-) -> Option<usize>
-    requires { IsSound slots.now }
-    ensures { result ≡ slot_labelled (labels_in labels.now) slots.now label.now }
-{
-    let path = labels.get(label)?;
-    slot_at(slots, path.as_str())
-}
-
 /// The bytes that a value stands for.
 pub(crate) fn resolved_value(
     alloc: Global,
     slots: &[Slot],
-    labels: &IndexMap<String, Text>,
+    labels: &KnownLabels<'_>,
     parts: &PartList,
 ) -> Result<Bytes, NoMemory>
-    requires { IsSound slots.now }
-    ensures { IfOk result (λ bytes. bytes ≡ slot_value (labels_in labels.now) slots.now parts.now) }
+    requires sound { IsSound slots.now }
+    requires placed { HavePathsBack slots.now labels.now }
+    ensures { IfOk result
+        (λ bytes. bytes ≡ slot_value (known_in slots.now labels.now) slots.now parts.now) }
 {
     let mut bytes = Bytes::none(alloc);
     for part in parts.as_slice() {
@@ -88,13 +76,14 @@ pub(crate) fn resolved_value(
 fn add_part(
     alloc: Global,
     slots: &[Slot],
-    labels: &IndexMap<String, Text>,
+    labels: &KnownLabels<'_>,
     part: &Part,
     bytes: Bytes,
 ) -> Result<Bytes, NoMemory>
-    requires { IsSound slots.now }
+    requires sound { IsSound slots.now }
+    requires placed { HavePathsBack slots.now labels.now }
     ensures { IfOk result
-        (λ more. more ≡ bytes ++ part_in (labels_in labels.now) slots.now part.now) }
+        (λ more. more ≡ bytes ++ part_in (known_in slots.now labels.now) slots.now part.now) }
 {
     match part {
         Part::Bytes(more) => {
@@ -105,38 +94,22 @@ fn add_part(
             return with_more(bytes, &cell);
         }
         Part::Path { label, .. } => {
-            let path = path_text(labels, label.as_str());
-            let bytes = with_more(bytes, path.as_bytes())?;
+            let bytes = add_path(slots, labels, label.as_str(), bytes)?;
             return with_more(bytes, &[0]);
         }
-    }
-}
-
-fn with_more(mut bytes: Bytes, more: &[u8]) -> Result<Bytes, NoMemory>
-    ensures { IfOk result (λ all. all ≡ bytes ++ more.now) }
-{
-    bytes.add(more)?;
-    Ok(bytes)
-}
-
-fn path_text<'a>(labels: &'a IndexMap<String, Text>, label: &str) -> &'a str
-    ensures { result.now ≡ unwrap_or (path_labelled (labels_in labels.now) label.now) [] }
-{
-    match labels.get(label) {
-        Some(path) => path.as_str(),
-        None => "",
     }
 }
 
 fn cell_of(
     alloc: Global,
     slots: &[Slot],
-    labels: &IndexMap<String, Text>,
+    labels: &KnownLabels<'_>,
     label: &str,
 ) -> Result<[u8; 4], NoMemory>
-    requires { IsSound slots.now }
+    requires sound { IsSound slots.now }
+    requires placed { HavePathsBack slots.now labels.now }
     ensures { IfOk result (λ cell. cell
-        ≡ to_be_bytes w32 (cell_labelled (labels_in labels.now) slots.now label.now)) }
+        ≡ to_be_bytes w32 (cell_labelled (known_in slots.now labels.now) slots.now label.now)) }
 {
     let Some(k) = label_slot(slots, labels, label) else {
         return Ok([0; 4]);

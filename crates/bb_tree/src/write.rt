@@ -3,28 +3,29 @@ ghost use Rattle.std.specs.Option.{option_map};
 ghost use Rattle.bb_tree.specs.NodeViews.{branch_of, prop_pair};
 ghost use Rattle.bb_tree.specs.SlotValues.{finished_node, values_in};
 ghost use Rattle.bb_tree.specs.Slots.{IsSound, props_at};
-ghost use Rattle.bb_tree.specs.Texts.{labels_in};
+ghost use Rattle.bb_tree.specs.Known.{known_in, HavePathsBack};
 
+use crate::known::KnownLabels;
 use crate::order::{count_nodes, nth_node};
 use crate::slot::Slot;
 use crate::value::resolved_value;
 use crate::{Node, NodeList, PartList, Prop, PropList};
 use bb_base::{NoMemory, Text};
-use indexmap::IndexMap;
 use std::alloc::Global;
 
 /// The node of slot `k` and all that is under it, with that name and with its references resolved.
 pub(crate) fn node_of(
     alloc: Global,
     slots: &[Slot],
-    labels: &IndexMap<String, Text>,
+    labels: &KnownLabels<'_>,
     k: usize,
     name: Text,
 ) -> Result<Node, NoMemory>
     requires within { k < length slots.now }
     requires sound { IsSound slots.now }
+    requires placed { HavePathsBack slots.now labels.now }
     ensures { IfOk result
-        (λ node. branch_of node ≡ finished_node (labels_in labels.now) slots.now name k) }
+        (λ node. branch_of node ≡ finished_node (known_in slots.now labels.now) slots.now name k) }
 {
     let props = finished_props(alloc, slots, labels, k)?;
     let count = count_nodes(slots, k);
@@ -43,13 +44,14 @@ pub(crate) fn node_of(
 fn finished_props(
     alloc: Global,
     slots: &[Slot],
-    labels: &IndexMap<String, Text>,
+    labels: &KnownLabels<'_>,
     k: usize,
 ) -> Result<PropList, NoMemory>
     requires within { k < length slots.now }
     requires sound { IsSound slots.now }
+    requires placed { HavePathsBack slots.now labels.now }
     ensures { IfOk result (λ props. map prop_pair props
-        ≡ values_in (labels_in labels.now) slots.now (props_at slots.now k)) }
+        ≡ values_in (known_in slots.now labels.now) slots.now (props_at slots.now k)) }
 {
     let count = count_props(slots, k);
     let mut props = PropList::with_room(alloc, count)?;

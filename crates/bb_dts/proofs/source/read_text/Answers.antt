@@ -1,6 +1,7 @@
-use Rattle.std.proofs.Common.{◌≡◌, length, Err, arith}
+use Rattle.std.proofs.Common.{◌≡◌, ap, length, Err, arith}
 use Rattle.std.proofs.lemmas.Grind.{common_steps}
 use Rattle.std.proofs.lemmas.Result.{err_from_is_err_and}
+use Rattle.bb_tree.specs.Placed.{PlacedValue}
 use Rattle.bb_dts.specs.declared.error.DtsError.TheVariants.{NoMemory}
 use Rattle.bb_dts.specs.declared.label.Level.TheVariants.{AtHead}
 use Rattle.bb_dts.specs.Outermost.{outcome_from_labels}
@@ -20,7 +21,7 @@ pub returns-in_err-read_outermost-clause-refused : goal.returns-in_err-read_oute
 returns-in_err-read_outermost-clause-refused c =
     let reads =
     start_read c.args.input.total c.args.text.now c.in_ok-rest.rest.now
-    c.new-reader.result.draft c.requires.whole c.new-reader.ensures.draft
+    c.new-reader.result.draft.draft c.requires.whole (ap (λ (d : PlacedValue). d.draft) c.new-reader.ensures.draft)
     c.in_ok-rest.ensures.ok in
     let p = err_from_is_err_and c.from_residual-in_err-read_outermost.result
     c.from_residual-in_err-read_outermost.ensures.1 in
@@ -28,7 +29,7 @@ returns-in_err-read_outermost-clause-refused c =
     let refuses : (e ≡ NoMemory → ⊥)
     → tree_of (length c.args.text.now) (walk_of c.args.text.now) ≡ Err e = λ told. let same =
     unless_memory-told e (outcome_from_labels c.new-reader.result.input.total AtHead
-    c.new-reader.result.draft c.in_ok-rest.rest.now) (Err e) told
+    c.new-reader.result.draft.draft c.in_ok-rest.rest.now) (Err e) told
     c.in_err-read_outermost.ensures.refused in grind (arith, common_steps) in
     rw (p.1, p.2) refuses
 
@@ -36,7 +37,7 @@ pub returns-clause-ok : goal.returns-clause-ok
 returns-clause-ok c =
     let reads =
     start_read c.args.input.total c.args.text.now c.in_ok-rest.rest.now
-    c.new-reader.result.draft c.requires.whole c.new-reader.ensures.draft
+    c.new-reader.result.draft.draft c.requires.whole (ap (λ (d : PlacedValue). d.draft) c.new-reader.ensures.draft)
     c.in_ok-rest.ensures.ok in
     grind (arith, common_steps)
 
@@ -44,6 +45,6 @@ pub returns-clause-refused : goal.returns-clause-refused
 returns-clause-refused c =
     let reads =
     start_read c.args.input.total c.args.text.now c.in_ok-rest.rest.now
-    c.new-reader.result.draft c.requires.whole c.new-reader.ensures.draft
+    c.new-reader.result.draft.draft c.requires.whole (ap (λ (d : PlacedValue). d.draft) c.new-reader.ensures.draft)
     c.in_ok-rest.ensures.ok in
     grind (arith, common_steps)

@@ -29,7 +29,7 @@ loop-child-preserved t c =
     let new = c.merge_nodes.new.slots.items in
     let out = out-DraftNode child in
     let step = Changes-node c.args.k c.in_ok-c.c (map draft_of done) out.name (map pair out.props) (drafts_of out.nodes) old c.loop-child.slots.items c.child_or_new.new.slots.items c.put_props.new.slots.items new
-    c.loop-child.invariant.changes c.in_ok-c.ensures c.in_ok-put_props.ensures c.in_ok-merge_nodes.ensures in
+    c.loop-child.invariant.changes c.in_ok-c.ensures.child c.in_ok-put_props.ensures c.in_ok-merge_nodes.ensures in
     let bodies : map draft_of (done ++ child ∷ []) ≡ map draft_of done ++ record { name = out.name; props = map pair out.props; nodes = forest (drafts_of out.nodes) } ∷ [] =
     map-append draft_of done (child ∷ []) ∙ ap (λ (b : Branch (List Part)). map draft_of done ++ b ∷ []) (draft_of_out child) in
     record {

@@ -28,7 +28,7 @@ loop-prop-preserved c =
     record {
       split = append_assoc done (prop ∷ []) c.next.new.self.rest.items ∙ ap (λ l. done ++ l) (sym c.in-Some.ensures.steps.0) ∙ c.loop-prop.invariant.split;
       changes = subst (λ (l : List (List ℕ × List Part)). Changes c.args.k (with_props l) old new) (sym (map-append pair done (prop ∷ [])))
-          (Changes-prop c.args.k (map pair done) (pair prop) old c.loop-prop.slots.items new c.loop-prop.invariant.changes c.in_ok-put_prop.ensures);
+          (Changes-prop c.args.k (map pair done) (pair prop) old c.loop-prop.slots.items new c.loop-prop.invariant.changes c.in_ok-put_prop.ensures.changes);
     }
 
 pub returns : goal.returns

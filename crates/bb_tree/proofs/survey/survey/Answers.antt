@@ -5,14 +5,14 @@ use Rattle.std.proofs.lemmas.Option.{slice_get-get_or}
 use Rattle.bb_tree.specs.Resolve.{Reference}
 use Rattle.bb_tree.specs.Slots.{props_at}
 use Rattle.bb_tree.specs.SlotValues.{Surveys, is_dangling, cell_slot, references_of_props}
-use Rattle.bb_tree.specs.Texts.{texts_in}
+use Rattle.bb_tree.specs.Known.{known_in}
 use Rattle.bb_tree.proofs.Nodes.{err_gives}
 use Rattle.bb_tree.proofs.Surveying.{Surveyed-more, Surveys-lost, flat_map-map}
 use Rattle.bb_tree.proofs.survey.survey.Goals as goal
 
 pub returns-in_err-survey_props : goal.returns-in_err-survey_props
 returns-in_err-survey_props c =
-    let labels = texts_in c.args.labels.now.entries in
+    let labels = known_in c.args.slots.now c.args.labels.now in
     let slots = c.args.slots.now in
     let order = c.args.order.now in
     let R : ℕ → List Reference = λ k. references_of_props (props_at slots k) in
@@ -27,7 +27,7 @@ returns-in_err-survey_props c =
 
 pub loop-k-preserved : goal.loop-k-preserved
 loop-k-preserved c =
-    let labels = texts_in c.args.labels.now.entries in
+    let labels = known_in c.args.slots.now c.args.labels.now in
     let slots = c.args.slots.now in
     let order = c.args.order.now in
     let R : ℕ → List Reference = λ k. references_of_props (props_at slots k) in
@@ -37,7 +37,7 @@ loop-k-preserved c =
 
 pub returns : goal.returns
 returns c =
-    let labels = texts_in c.args.labels.now.entries in
+    let labels = known_in c.args.slots.now c.args.labels.now in
     let slots = c.args.slots.now in
     let order = c.args.order.now in
     let R : ℕ → List Reference = λ k. references_of_props (props_at slots k) in

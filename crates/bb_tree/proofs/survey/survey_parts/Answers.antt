@@ -4,14 +4,14 @@ use Rattle.std.proofs.lemmas.List.{take_all}
 use Rattle.std.proofs.lemmas.Option.{slice_get_read}
 use Rattle.bb_tree.specs.Resolve.{Reference, reference_in}
 use Rattle.bb_tree.specs.SlotValues.{Surveys, is_dangling, cell_slot, references_of_part}
-use Rattle.bb_tree.specs.Texts.{texts_in}
+use Rattle.bb_tree.specs.Known.{known_in}
 use Rattle.bb_tree.proofs.Nodes.{err_gives}
 use Rattle.bb_tree.proofs.Surveying.{Surveyed-more, Surveys-lost, references_of_parts}
 use Rattle.bb_tree.proofs.survey.survey_parts.Goals as goal
 
 pub returns-in_err-survey_part : goal.returns-in_err-survey_part
 returns-in_err-survey_part c =
-    let labels = texts_in c.args.labels.now.entries in
+    let labels = known_in c.args.slots.now c.args.labels.now in
     let slots = c.args.slots.now in
     let parts = c.as_slice-part-items.result.now in
     let old = c.args.targets.now.items in
@@ -24,7 +24,7 @@ returns-in_err-survey_part c =
 
 pub loop-part-preserved : goal.loop-part-preserved
 loop-part-preserved c =
-    let labels = texts_in c.args.labels.now.entries in
+    let labels = known_in c.args.slots.now c.args.labels.now in
     let slots = c.args.slots.now in
     let parts = c.as_slice-part-items.result.now in
     let at = slice_get_read parts (length parts) c.loop-part.part-index c.part-item.result refl (omega arith) c.part-item.is in
@@ -32,7 +32,7 @@ loop-part-preserved c =
 
 pub returns : goal.returns
 returns c =
-    let labels = texts_in c.args.labels.now.entries in
+    let labels = known_in c.args.slots.now c.args.labels.now in
     let slots = c.args.slots.now in
     let parts = c.as_slice-part-items.result.now in
     let all : flat_map references_of_part (take c.loop-part.part-index parts) ≡ filter_map reference_in c.args.parts.now =

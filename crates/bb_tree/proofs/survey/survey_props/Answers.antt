@@ -4,14 +4,14 @@ use Rattle.std.proofs.lemmas.List.{take_all}
 use Rattle.bb_tree.specs.declared.part.Part.{Part}
 use Rattle.bb_tree.specs.Slots.{props_at}
 use Rattle.bb_tree.specs.SlotValues.{is_dangling, cell_slot, references_of_prop, references_of_props}
-use Rattle.bb_tree.specs.Texts.{texts_in}
+use Rattle.bb_tree.specs.Known.{known_in}
 use Rattle.bb_tree.proofs.Nodes.{err_gives}
 use Rattle.bb_tree.proofs.Surveying.{Surveyed-more, Surveys-lost}
 use Rattle.bb_tree.proofs.survey.survey_props.Goals as goal
 
 pub returns-in_err-survey_parts : goal.returns-in_err-survey_parts
 returns-in_err-survey_parts c =
-    let labels = texts_in c.args.labels.now.entries in
+    let labels = known_in c.args.slots.now c.args.labels.now in
     let slots = c.args.slots.now in
     let props = props_at slots c.args.k in
     let prop : List ℕ × List Part = (c.in-Some._name.now, c.in-Some.parts.now) in
@@ -22,7 +22,7 @@ returns-in_err-survey_parts c =
 
 pub loop-i-preserved : goal.loop-i-preserved
 loop-i-preserved c =
-    let labels = texts_in c.args.labels.now.entries in
+    let labels = known_in c.args.slots.now c.args.labels.now in
     let slots = c.args.slots.now in
     let props = props_at slots c.args.k in
     let prop : List ℕ × List Part = (c.in-Some._name.now, c.in-Some.parts.now) in
@@ -30,7 +30,7 @@ loop-i-preserved c =
 
 pub returns : goal.returns
 returns c =
-    let labels = texts_in c.args.labels.now.entries in
+    let labels = known_in c.args.slots.now c.args.labels.now in
     let slots = c.args.slots.now in
     let props = props_at slots c.args.k in
     let all : flat_map references_of_prop (take c.loop-i.i props) ≡ references_of_props props = ap (flat_map references_of_prop) (take_all c.loop-i.i props (omega (arith, c.count_props-i-end.ensures))) in

@@ -1,4 +1,4 @@
-use Rattle.std.proofs.Common.{◌≡◌, List, ℕ, Some, get_or, subst, arith, slice_get}
+use Rattle.std.proofs.Common.{◌≡◌, ◌∙◌, refl, List, ℕ, Some, get_or, subst, arith, slice_get}
 use Rattle.std.proofs.lemmas.List.{take_all}
 use Rattle.std.proofs.lemmas.Option.{slice_get-get_or}
 use Rattle.bb_tree.specs.Taking.{IsNumbered}
@@ -9,6 +9,7 @@ use Rattle.bb_tree.proofs.taken.number_targets.Goals as goal
 pub loop-k-init : goal.loop-k-init
 loop-k-init c = record {
   numbered = IsNumbered-none c.args.slots.now.items c.requires.sound;
+  same = refl;
   taken = c.requires.taken;
   some = omega arith;
   below = λ m a b. absurd (omega arith);
@@ -40,16 +41,20 @@ loop-k-preserved c =
     let new = c.give_phandle.new.slots.items in
     let more = c.give_phandle.new.taken.keys in
     let n = c.in_ok-from.from in
-    let v = c.in_ok-from.ensures in
+    let v = c.in_ok-from.ensures.gives in
     let inv = c.loop-k.invariant in
     let goes = Goes-from k n now new c.loop-k.taken.keys more inv.numbered.sound v in
     record {
       numbered = IsNumbered-next targets c.loop-k.k-index k n c.args.slots.now.items now new c.loop-k.taken.keys more at inv.numbered inv.taken v;
+      same = c.in_ok-from.ensures.spine ∙ inv.same;
       taken = (referred_next now new k n led.0 c.loop-k.taken.keys more inv.numbered.sound (inv.numbered.leads led.0 k led.1) inv.taken v).1;
       some = goes.some;
       below = goes.below;
     }
 
-pub returns : goal.returns
-returns c =
+pub returns-clause-numbered : goal.returns-clause-numbered
+returns-clause-numbered c =
     subst (λ (l : List ℕ). IsNumbered l c.args.slots.now.items c.loop-k.slots.items) (take_all c.loop-k.k-index c.args.targets.now (omega arith)) c.loop-k.invariant.numbered
+
+pub returns-clause-spine : goal.returns-clause-spine
+returns-clause-spine c = c.loop-k.invariant.same

@@ -6,13 +6,13 @@ use Rattle.std.proofs.lemmas.Grind.{common_steps}
 use Rattle.bb_tree.specs.Resolve.{resolved_part, phandle_among}
 use Rattle.bb_tree.specs.Slots.{slots_tree, props_at}
 use Rattle.bb_tree.specs.SlotValues.{slot_labelled}
-use Rattle.bb_tree.specs.Texts.{texts_in}
+use Rattle.bb_tree.specs.Known.{known_in}
 use Rattle.bb_tree.proofs.Cells.{cell_same}
 use Rattle.bb_tree.proofs.value.add_part.Goals as goal
 
 pub returns-in-Cell : goal.returns-in-Cell
 returns-in-Cell c =
-    let labels = texts_in c.args.labels.now.entries in
+    let labels = known_in c.args.slots.now c.args.labels.now in
     let slots = c.args.slots.now in
     let label = c.in-Cell.label in
     let read : Option ℕ → List ℕ = λ o. to_be_bytes w32 (unwrap_or o 0) in

@@ -5,7 +5,7 @@ use Rattle.bb_tree.specs.NodeViews.{branch_of, branches_of, seen_node, seen_node
 use Rattle.bb_tree.specs.declared.node.Node.TheFolds.{fold-roll-Node}
 use Rattle.bb_tree.specs.SlotValues.{values_in}
 use Rattle.bb_tree.specs.Slots.{props_at, table_at}
-use Rattle.bb_tree.specs.Texts.{texts_in}
+use Rattle.bb_tree.specs.Known.{known_in}
 use Rattle.bb_tree.proofs.Below.{child_within, take_next}
 use Rattle.bb_tree.proofs.Writing.{child_finished, finished_children}
 use Rattle.bb_tree.proofs.write.+node_of.Goals as goal
@@ -13,11 +13,11 @@ use Rattle.bb_tree.proofs.write.+node_of.Goals as goal
 pub node_of-requires : goal.node_of-requires
 node_of-requires t c =
     let b = child_within c.args.slots.now c.args.k c.loop-i.i (c.in-Some.name.now, c.in-Some.child) c.requires.sound c.requires.within (sym c.in-Some.ensures) in
-    (omega (arith, c.decreases, b.0, b.1), (b.1, c.requires.sound))
+    (omega (arith, c.decreases, b.0, b.1), (b.1, (c.requires.sound, c.requires.placed)))
 
 pub loop-i-preserved : goal.loop-i-preserved
 loop-i-preserved t c =
-    let labels = texts_in c.args.labels.now.entries in
+    let labels = known_in c.args.slots.now c.args.labels.now in
     let slots = c.args.slots.now in
     let table = table_at slots c.args.k in
     let f = child_finished labels slots in
@@ -28,7 +28,7 @@ loop-i-preserved t c =
 
 pub returns : goal.returns
 returns t c =
-    let labels = texts_in c.args.labels.now.entries in
+    let labels = known_in c.args.slots.now c.args.labels.now in
     let slots = c.args.slots.now in
     let table = table_at slots c.args.k in
     let all = c.loop-i.invariant ∙ ap (map (child_finished labels slots)) (take_all c.loop-i.i table (omega (arith, c.count_nodes-count.ensures))) in

@@ -5,13 +5,13 @@ use Rattle.bb_tree.specs.declared.prop.Prop.{Prop}
 use Rattle.bb_tree.specs.NodeViews.{prop_pair}
 use Rattle.bb_tree.specs.Slots.{props_at}
 use Rattle.bb_tree.specs.SlotValues.{values_in, slot_value}
-use Rattle.bb_tree.specs.Texts.{texts_in}
+use Rattle.bb_tree.specs.Known.{known_in}
 use Rattle.bb_tree.proofs.Below.{take_next}
 use Rattle.bb_tree.proofs.write.finished_props.Goals as goal
 
 pub loop-i-preserved : goal.loop-i-preserved
 loop-i-preserved c =
-    let labels = texts_in c.args.labels.now.entries in
+    let labels = known_in c.args.slots.now c.args.labels.now in
     let slots = c.args.slots.now in
     let props = props_at slots c.args.k in
     let prop : List ℕ × List Part = (c.in-Some.name.now, c.in-Some.parts.now) in
@@ -24,6 +24,6 @@ loop-i-preserved c =
 
 pub returns : goal.returns
 returns c =
-    let labels = texts_in c.args.labels.now.entries in
+    let labels = known_in c.args.slots.now c.args.labels.now in
     let props = props_at c.args.slots.now c.args.k in
     c.loop-i.invariant ∙ ap (values_in labels c.args.slots.now) (take_all c.loop-i.i props (omega (arith, c.count_props-count.ensures)))

@@ -10,7 +10,7 @@ use Rattle.bb_dts.proofs.reader.Reader.read_next.Goals as goal
 
 pub returns-in_err-waiting-clause-refused : goal.returns-in_err-waiting-clause-refused
 returns-in_err-waiting-clause-refused c =
-    let draft = c.args.self.now.draft in
+    let draft = c.args.self.now.draft.draft in
     let total = c.args.self.now.input.total in
     let walk = labels_walk_from total c.outer_level.result [] c.args.text.now in
     let refuses =
@@ -21,7 +21,7 @@ returns-in_err-waiting-clause-refused c =
 
 pub returns-clause-ok : goal.returns-clause-ok
 returns-clause-ok c =
-    let draft = c.args.self.now.draft in
+    let draft = c.args.self.now.draft.draft in
     let reads =
     ap (λ (w : OnwardLabels). outcome_of c.args.self.now.input.total draft.tree draft.reserved
     (w draft.labels root [])) c.in_ok-waiting.ensures.ok in
@@ -29,7 +29,7 @@ returns-clause-ok c =
 
 pub returns-clause-refused : goal.returns-clause-refused
 returns-clause-refused c =
-    let draft = c.args.self.now.draft in
+    let draft = c.args.self.now.draft.draft in
     let reads =
     ap (λ (w : OnwardLabels). outcome_of c.args.self.now.input.total draft.tree draft.reserved
     (w draft.labels root [])) c.in_ok-waiting.ensures.ok in

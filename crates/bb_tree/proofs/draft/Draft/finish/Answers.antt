@@ -16,7 +16,7 @@ returns-clause-ok c =
     let labels = texts_in i.labels.entries in
     let rooted = c.with_root.new.slots.items in
     let new = c.number_references.new.slots.items in
-    let done = c.in_ok-number_references.ensures in
+    let done = c.in_ok-number_references.ensures.resolves in
     let with_tree : Branch (List Part) → DraftValue =
     λ t. record { tree = t; labels = labels; reserved = i.reserved } in
     let same : with_tree (slots_tree rooted) ≡ c.args.self =
