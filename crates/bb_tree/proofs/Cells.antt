@@ -1,5 +1,5 @@
 -- What a reference inside `< >` becomes.
-use Rattle.std.proofs.Common.{◌≡◌, ℕ, List, Option, Some, None, refl, ap}
+use Rattle.std.proofs.Common.{◌≡◌, ℕ, List, [], ◌∷◌, Option, Some, None, refl, ap, append-nil}
 use Rattle.std.specs.Option.{option_map, option_and_then}
 use Rattle.bb_tree.specs.declared.part.Part.{Part}
 use Rattle.bb_tree.specs.declared.slot.Slot.{Slot}
@@ -7,11 +7,15 @@ use Rattle.bb_tree.specs.Node.{Branch}
 use Rattle.bb_tree.specs.Paths.{path_names, node_at, found}
 use Rattle.bb_tree.specs.Phandle.{phandle_by}
 use Rattle.bb_tree.specs.Draft.{Labels, path_labelled}
-use Rattle.bb_tree.specs.Resolve.{literal, phandle_among, node_labelled}
+use Rattle.bb_tree.specs.Resolve.{bytes_there, literal, phandle_among, node_labelled}
 use Rattle.bb_tree.specs.SlotValues.{slot_labelled}
 use Rattle.bb_tree.specs.Spine.{slot_led_to}
 use Rattle.bb_tree.specs.Slots.{spine, props_at, slots_tree}
 use Rattle.bb_tree.proofs.Finding.{props-node_at}
+
+-- a value of one piece
+pub literal_one : (part : Part) → literal (part ∷ []) ≡ bytes_there part
+literal_one part = append-nil (bytes_there part)
 
 -- the phandle of a node is that of the slot with its properties
 pub phandle_same : (P : ℕ → List (List ℕ × List Part)) (o : Option (Branch (List Part)))

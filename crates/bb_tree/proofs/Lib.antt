@@ -15,5 +15,6 @@ pub mod Numbering
 pub mod Numbered
 pub mod Resolving
 pub mod Placing
+pub mod Tabling
 pub mod Counting
 pub mod Lengths

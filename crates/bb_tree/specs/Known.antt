@@ -20,7 +20,7 @@ labels_placed slots labels = placed_labels (places slots) labels
 
 abbrev pub known_in : List Slot → KnownLabels → Labels
 known_in slots (ByPath labels) = texts_in labels.now.entries
-known_in slots (ByPlace labels) = labels_placed slots (texts_in labels.now.entries)
+known_in slots (ByPlace labels) = labels_placed slots labels.now
 
 -- the paths of the places that labels stand for lead to them
 abbrev pub HavePathsBackIn : List Slot → List (List ℕ × ℕ) → Type 0
@@ -29,4 +29,4 @@ HavePathsBackIn slots labels =
 
 abbrev pub HavePathsBack : List Slot → KnownLabels → Type 0
 HavePathsBack slots (ByPath labels) = Unit {0}
-HavePathsBack slots (ByPlace labels) = HavePathsBackIn slots (texts_in labels.now.entries)
+HavePathsBack slots (ByPlace labels) = HavePathsBackIn slots labels.now

@@ -15,6 +15,7 @@ pub mod Refusals
 pub mod Blob
 -- inside: how a draft is kept in a list of slots, and what its private functions do on the way
 pub mod Texts
+pub mod Tables
 pub mod Spine
 pub mod Slots
 pub mod Places

@@ -6,7 +6,6 @@ use Rattle.bb_tree.specs.Known.{placed_labels}
 use Rattle.bb_tree.specs.Placed.{PlacedValue}
 use Rattle.bb_tree.specs.Places.{places, AllStand}
 use Rattle.bb_tree.specs.Slots.{slots_tree, IsSound}
-use Rattle.bb_tree.specs.Texts.{texts_in}
 
 -- the value of slots, labels of places and reserved pairs
 abbrev pub placed_of : List Slot → List (List ℕ × ℕ) → List (ℕ × ℕ) → PlacedValue
@@ -20,7 +19,7 @@ placed_of slots labels reserved = record {
 }
 
 abbrev pub placed_value : Inside → PlacedValue
-placed_value d = placed_of d.slots.items (texts_in d.labels.entries) d.reserved
+placed_value d = placed_of d.slots.items d.labels d.reserved
 
 -- the labels stand for places
 abbrev pub AreWithin : List (List (List ℕ)) → List (List ℕ × ℕ) → Type 0
@@ -29,4 +28,4 @@ AreWithin all labels = All (λ e. e.1 < length all) labels
 pub record IsWholePlaced (d : Inside) : Type 0 where
   pub sound : IsSound d.slots.items
   pub stand : AllStand d.slots.items
-  pub within : AreWithin (places d.slots.items) (texts_in d.labels.entries)
+  pub within : AreWithin (places d.slots.items) d.labels

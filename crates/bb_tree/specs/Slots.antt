@@ -5,7 +5,6 @@ use Rattle.std.specs.Prelude.{◌≡◌, ℕ, ◌<◌, ◌≤◌, List, [], ◌�
 use Rattle.std.specs.Option.{option_map_or}
 use Rattle.bb_tree.specs.declared.part.Part.{Part}
 use Rattle.bb_tree.specs.declared.slot.Slot.{Slot}
-use Rattle.bb_tree.specs.Texts.{texts_in}
 use Rattle.bb_tree.specs.Node.{Forest, Branch, forest, preorder_of}
 use Rattle.bb_tree.specs.Paths.{path_names}
 use Rattle.bb_tree.specs.Merge.{put, put_all, reached, with_child, merging_nodes}
@@ -17,14 +16,14 @@ spine slots = map (λ s. (s.parent, s.name)) (drop 1 slots)
 
 -- the properties of a slot
 abbrev pub props_in : Slot → List (List ℕ × List Part)
-props_in s = texts_in s.props.entries
+props_in s = s.props
 
 abbrev pub props_at : List Slot → ℕ → List (List ℕ × List Part)
 props_at slots i = option_map_or props_in (slice_get slots i) []
 
 -- the table of the nodes in a slot
 abbrev pub table_in : Slot → List (List ℕ × ℕ)
-table_in s = texts_in s.nodes.entries
+table_in s = s.nodes
 
 abbrev pub table_at : List Slot → ℕ → List (List ℕ × ℕ)
 table_at slots i = option_map_or table_in (slice_get slots i) []

@@ -1,3 +1,4 @@
+use crate::table::NamedEntries;
 use bb_base::Text;
 use indexmap::IndexMap;
 
@@ -5,5 +6,5 @@ use indexmap::IndexMap;
 #[derive(Clone, Copy)]
 pub(crate) enum KnownLabels<'a> {
     ByPath(&'a IndexMap<String, Text>),
-    ByPlace(&'a IndexMap<String, usize>),
+    ByPlace(&'a NamedEntries<usize>),
 }

@@ -7,11 +7,12 @@ ghost use Rattle.bb_tree.specs.Paths.{path_of, path_behind};
 ghost use Rattle.bb_tree.specs.Places.{names_to};
 ghost use Rattle.bb_tree.specs.SlotValues.{slot_labelled};
 ghost use Rattle.bb_tree.specs.Slots.{IsSound};
-ghost use Rattle.bb_tree.specs.Texts.{labels_in, texts_in};
+ghost use Rattle.bb_tree.specs.Texts.{labels_in};
 
 use crate::known::KnownLabels;
 use crate::place::slot_at;
 use crate::slot::Slot;
+use crate::table::NamedEntries;
 use bb_base::{Bytes, NoMemory, Text};
 use indexmap::IndexMap;
 
@@ -36,8 +37,8 @@ fn path_slot(slots: &[Slot], paths: &IndexMap<String, Text>, label: &str) -> Opt
 }
 
 /// The place that a label stands for.
-pub(crate) fn place_of(places: &IndexMap<String, usize>, label: &str) -> Option<usize>
-    ensures { result ≡ lookup (bytes_eq label.now) (texts_in places.now.entries) }
+pub(crate) fn place_of(places: &NamedEntries<usize>, label: &str) -> Option<usize>
+    ensures { result ≡ lookup (bytes_eq label.now) places.now }
 {
     places.get(label).copied()
 }
@@ -71,14 +72,14 @@ fn path_text<'a>(paths: &'a IndexMap<String, Text>, label: &str) -> &'a str
 
 fn add_place_path(
     slots: &[Slot],
-    places: &IndexMap<String, usize>,
+    places: &NamedEntries<usize>,
     label: &str,
     bytes: Bytes,
 ) -> Result<Bytes, NoMemory>
     requires sound { IsSound slots.now }
-    requires placed { HavePathsBackIn slots.now (texts_in places.now.entries) }
+    requires placed { HavePathsBackIn slots.now places.now }
     ensures { IfOk result (λ more. more ≡ bytes ++ unwrap_or
-        (path_labelled (labels_placed slots.now (texts_in places.now.entries)) label.now) []) }
+        (path_labelled (labels_placed slots.now places.now) label.now) []) }
 {
     match place_of(places, label) {
         Some(k) => add_path_to(slots, k, bytes),

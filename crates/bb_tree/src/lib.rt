@@ -21,6 +21,7 @@ mod prop;
 mod resolve;
 mod slot;
 mod survey;
+mod table;
 mod taken;
 mod tree;
 mod tree_error;

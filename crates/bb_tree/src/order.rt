@@ -11,8 +11,8 @@ pub(crate) fn nth_node(slots: &[Slot], k: usize, i: usize) -> Option<(&str, usiz
     ensures { option_map (λ e. (e.0.now, e.1)) result ≡ slice_get (table_at slots.now k) i }
 {
     let slot = &slots[k];
-    match slot.nodes.get_index(i) {
-        Some((name, child)) => Some((name.as_str(), *child)),
+    match slot.nodes.nth(i) {
+        Some((name, child)) => Some((name, *child)),
         None => None,
     }
 }

@@ -8,8 +8,8 @@ ghost use Rattle.bb_tree.specs.Slots.{slot_through, spine, table_at, with_prop};
 
 use crate::DraftProp;
 use crate::slot::Slot;
+use crate::table::NamedEntries;
 use bb_base::{NoMemory, Text};
-use indexmap::IndexMap;
 use std::alloc::Global;
 
 /// A slot for the root, where there is none yet.
@@ -21,8 +21,8 @@ pub(crate) fn with_root(alloc: Global, slots: &mut Vec<Slot>) -> Result<(), NoMe
         slots.push(Slot {
             parent: 0,
             name: Text::of(alloc, "")?,
-            props: IndexMap::new(alloc),
-            nodes: IndexMap::new(alloc),
+            props: NamedEntries::none(alloc),
+            nodes: NamedEntries::none(alloc),
         })?;
     }
     Ok(())
@@ -42,24 +42,9 @@ pub(crate) fn put_prop(
     ensures spine { OnOk result (spine slots.new.items ≡ spine slots.old.items) }
 {
     let DraftProp { name, parts } = prop;
-    let key = String::from_str(alloc, name.as_str())?;
     let slot = &mut slots[k];
-    let _ = slot.props.insert(key, parts)?;
-    give_back(&mut slot.props);
+    slot.props.put(alloc, name, parts)?;
     Ok(())
-}
-
-// A table makes room for nine entries at its first, and most nodes have few properties and few
-// nodes in them.
-const FEW: usize = 4;
-
-// Gives back the room after few entries.
-fn give_back<V>(table: &mut IndexMap<String, V>)
-    ensures { table.new.entries ≡ table.old.entries }
-{
-    if table.len() <= FEW {
-        table.shrink_to_fit();
-    }
 }
 
 /// Where the node of that name in the node at `k` is.
@@ -84,17 +69,16 @@ pub(crate) fn child_or_new(
     if let Some(c) = child_at(slots, k, name.as_str()) {
         return Ok(c);
     }
-    let key = String::from_str(alloc, name.as_str())?;
+    let key = name.copy()?;
     let at = slots.len();
     slots.push(Slot {
         parent: k,
         name,
-        props: IndexMap::new(alloc),
-        nodes: IndexMap::new(alloc),
+        props: NamedEntries::none(alloc),
+        nodes: NamedEntries::none(alloc),
     })?;
     let slot = &mut slots[k];
-    let _ = slot.nodes.insert(key, at)?;
-    give_back(&mut slot.nodes);
+    slot.nodes.put(alloc, key, at)?;
     Ok(at)
 }
 

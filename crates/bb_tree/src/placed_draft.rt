@@ -4,17 +4,16 @@ ghost use Rattle.std.specs.Option.{option_map};
 ghost use Rattle.std.specs.Map.{lookup};
 ghost use Rattle.std.specs.Str.{bytes_eq};
 ghost use Rattle.bb_tree.specs.Draft.{path_labelled};
-ghost use Rattle.bb_tree.specs.Texts.{texts_in};
 
 use crate::known::KnownLabels;
 use crate::label::place_of;
 use crate::place::{child_or_new, depth, put_prop, with_root};
 use crate::resolve::number_references;
 use crate::slot::Slot;
+use crate::table::NamedEntries;
 use crate::write::node_of;
 use crate::{DraftProp, PairList, Tree, TreeError};
 use bb_base::{NoMemory, Text};
-use indexmap::IndexMap;
 use std::alloc::Global;
 use std::marker::Model;
 
@@ -26,7 +25,7 @@ pub struct PlacedDraft {
     alloc: Global,
     // none while there is only the root, else the root first
     slots: Vec<Slot>,
-    labels: IndexMap<String, usize>,
+    labels: NamedEntries<usize>,
     reserved: PairList,
 }
 
@@ -63,7 +62,7 @@ impl PlacedDraft {
         PlacedDraft {
             alloc,
             slots: Vec::new(alloc),
-            labels: IndexMap::new(alloc),
+            labels: NamedEntries::none(alloc),
             reserved: PairList::none(alloc),
         }
     }
@@ -197,16 +196,15 @@ impl PlacedDraft {
 // Adds a label that isn't there.
 fn add_label(
     alloc: Global,
-    labels: &mut IndexMap<String, usize>,
+    labels: &mut NamedEntries<usize>,
     label: &str,
     place: usize,
 ) -> Result<(), NoMemory>
-    requires { lookup (bytes_eq label.now) (texts_in labels.old.entries) ≡ None }
-    ensures ok { OnOk result (texts_in labels.new.entries
-        ≡ texts_in labels.old.entries ++ (label.now, place) ∷ []) }
-    ensures err { OnErr result (texts_in labels.new.entries ≡ texts_in labels.old.entries) }
+    requires { lookup (bytes_eq label.now) labels.old ≡ None }
+    ensures ok { OnOk result (labels.new ≡ labels.old ++ (label.now, place) ∷ []) }
+    ensures err { OnErr result (labels.new ≡ labels.old) }
 {
-    let key = String::from_str(alloc, label)?;
-    let _ = labels.insert(key, place)?;
+    let name = Text::of(alloc, label)?;
+    labels.put(alloc, name, place)?;
     Ok(())
 }

@@ -1,6 +1,6 @@
 use crate::PartList;
+use crate::table::NamedEntries;
 use bb_base::Text;
-use indexmap::IndexMap;
 
 /// A node of a draft in the list of all its nodes, each after the node that it stands in. The first
 /// is the root.
@@ -9,7 +9,7 @@ pub(crate) struct Slot {
     /// Where the node that it stands in is in the list.
     pub parent: usize,
     pub name: Text,
-    pub props: IndexMap<String, PartList>,
+    pub props: NamedEntries<PartList>,
     /// The names of the nodes in it, and where each is in the list.
-    pub nodes: IndexMap<String, usize>,
+    pub nodes: NamedEntries<usize>,
 }

@@ -3,6 +3,7 @@ ghost use Rattle.std.specs.Int.{to_be_bytes, w32};
 ghost use Rattle.std.specs.Map.{lookup};
 ghost use Rattle.std.specs.Option.{option_copied};
 ghost use Rattle.std.specs.Str.{bytes_eq};
+ghost use Rattle.bb_tree.specs.Phandle as spec;
 ghost use Rattle.bb_tree.specs.Resolve as resolve;
 ghost use Rattle.bb_tree.specs.SlotValues.{cell_labelled, part_in, phandle_at};
 ghost use Rattle.bb_tree.specs.SlotValues.{slot_value};
@@ -44,8 +45,21 @@ pub(crate) fn phandle_at(alloc: Global, slots: &[Slot], k: usize) -> Result<Opti
     let Some(parts) = parts_of(slots, k, "phandle") else {
         return Ok(None);
     };
-    let bytes = literal(alloc, parts)?;
-    Ok(phandle_in(bytes.as_slice()))
+    Ok(phandle_of(alloc, parts)?)
+}
+
+// The phandle that a value gives. One of one piece is read where it stands.
+#[tactic(auto, using(crate::proofs::Cells::literal_one))]
+fn phandle_of(alloc: Global, parts: &PartList) -> Result<Option<u32>, NoMemory>
+    ensures { IfOk result (λ phandle. phandle ≡ spec.phandle_in (resolve.literal parts.now)) }
+{
+    match parts.as_slice() {
+        [part] => Ok(phandle_in(bytes_there(part))),
+        _ => {
+            let bytes = literal(alloc, parts)?;
+            Ok(phandle_in(bytes.as_slice()))
+        }
+    }
 }
 
 fn parts_of<'a>(slots: &'a [Slot], k: usize, name: &str) -> Option<&'a PartList>

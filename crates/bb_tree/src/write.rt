@@ -71,10 +71,7 @@ pub(crate) fn nth_prop(slots: &[Slot], k: usize, i: usize) -> Option<(&str, &Par
     ensures { option_map (λ e. (e.0.now, e.1.now)) result ≡ slice_get (props_at slots.now k) i }
 {
     let slot = slots.get(k)?;
-    match slot.props.get_index(i) {
-        Some((name, parts)) => Some((name.as_str(), parts)),
-        None => None,
-    }
+    slot.props.nth(i)
 }
 
 /// How many properties are in slot `k`.

@@ -5,7 +5,6 @@ use Rattle.bb_tree.specs.Draft.{path_labelled}
 use Rattle.bb_tree.specs.Known.{labels_placed}
 use Rattle.bb_tree.specs.Paths.{path_of}
 use Rattle.bb_tree.specs.Places.{places, names_to, names_of_place}
-use Rattle.bb_tree.specs.Texts.{texts_in}
 use Rattle.bb_tree.proofs.Placing.{lookup_placed}
 use Rattle.bb_tree.proofs.label.add_place_path.Goals as goal
 
@@ -16,7 +15,7 @@ add_path_to-requires-clause-within c =
 pub returns-in-Some : goal.returns-in-Some
 returns-in-Some c =
     let slots = c.args.slots.now in
-    let labels = texts_in c.args.places.now.entries in
+    let labels = c.args.places.now in
     let labelled : path_labelled (labels_placed slots labels) c.args.label.now
     ≡ Some (path_of (names_to slots c.in-Some.k)) =
     lookup_placed (places slots) labels c.args.label.now
@@ -32,7 +31,7 @@ returns-in-Some c =
 pub returns-in-None : goal.returns-in-None
 returns-in-None c =
     let slots = c.args.slots.now in
-    let labels = texts_in c.args.places.now.entries in
+    let labels = c.args.places.now in
     let labelled : path_labelled (labels_placed slots labels) c.args.label.now ≡ None =
     lookup_placed (places slots) labels c.args.label.now
     ∙ ap (option_map (λ k. path_of (names_of_place (places slots) k)))

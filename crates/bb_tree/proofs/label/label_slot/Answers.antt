@@ -2,7 +2,6 @@ use Rattle.std.proofs.Common.{sym, ap, subst, ◌∙◌}
 use Rattle.bb_tree.specs.Known.{known_in, HavePathsBack}
 use Rattle.bb_tree.specs.declared.known.KnownLabels.{KnownLabels}
 use Rattle.bb_tree.specs.SlotValues.{slot_labelled}
-use Rattle.bb_tree.specs.Texts.{texts_in}
 use Rattle.bb_tree.proofs.Placing.{slot_placed}
 use Rattle.bb_tree.proofs.label.label_slot.Goals as goal
 
@@ -12,5 +11,5 @@ returns-in-ByPlace c =
     let label = c.args.label.now in
     let placed = subst (HavePathsBack slots) c.in-ByPlace.is c.requires.placed in
     c.place_of.ensures
-    ∙ sym (slot_placed slots (texts_in c.in-ByPlace.places.now.entries) label placed)
+    ∙ sym (slot_placed slots c.in-ByPlace.places.now label placed)
     ∙ ap (λ (k : KnownLabels). slot_labelled (known_in slots k) slots label) (sym c.in-ByPlace.is)

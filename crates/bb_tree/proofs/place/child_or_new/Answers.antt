@@ -9,10 +9,10 @@ use Rattle.std.specs.Map.{lookup}
 use Rattle.std.proofs.lemmas.Option.{slice_get_read}
 use Rattle.bb_tree.specs.Slots.{table_at, table_in, HasChild}
 use Rattle.bb_tree.specs.declared.slot.Slot.{Slot}
-use Rattle.bb_tree.specs.Texts.{texts_in}
+use Rattle.bb_tree.specs.Merge.{put}
 use Rattle.bb_tree.specs.Places.{GrowsBy}
 use Rattle.bb_tree.proofs.Placing.{GrowsBy-there, GrowsBy-new}
-use Rattle.bb_tree.proofs.Changing.{spine-grown, HasChild-there, HasChild-new, IsBare, not_some, slice_get_before, table_last}
+use Rattle.bb_tree.proofs.Changing.{spine-grown, HasChild-there, HasChild-new, IsBare, not_some, slice_get_before, put_last}
 use Rattle.bb_tree.proofs.place.child_or_new.Goals as goal
 
 pub returns-in-Some-clause-child : goal.returns-in-Some-clause-child
@@ -28,7 +28,7 @@ pub returns-clause-child : goal.returns-clause-child
 returns-clause-child c =
     let slots = c.args.slots.now.items in
     let slot = c.index_mut-slot.result.now in
-    let x : Slot = record { parent = c.args.k; name = c.args.name; props = c.new.result; nodes = c.new-2.result } in
+    let x : Slot = record { parent = c.args.k; name = c.args.name; props = c.none.result; nodes = c.none-2.result } in
     let pushed = c.push.new.self.items in
     let items : pushed ≡ slots ++ x ∷ [] = c.in_ok-push.ensures.items in
     let free : lookup (bytes_eq c.args.name) (table_at slots c.args.k) ≡ None =
@@ -36,11 +36,10 @@ returns-clause-child c =
     ∙ sym c.child_at.ensures ∙ not_some c.child_at.result c.in_default.not-Some in
     let read = slice_get_read pushed (length pushed) c.args.k slot refl (omega (arith, ap length items, length-append slots (x ∷ []))) c.index_mut-slot.ensures.value in
     let at : slice_get slots c.args.k ≡ Some slot = slice_get_before slots x slot c.args.k (omega arith) (ap (λ l. slice_get l c.args.k) (sym items) ∙ read) in
-    let name = c.in_ok-key.ensures.ok ∙ c.as_str-2.ensures in
     let empty = ap (λ o. lookup (bytes_eq c.args.name) (option_map_or table_in o [])) (sym at) ∙ free in
-    let table = ap texts_in (c.give_back.ensures ∙ c.in_ok-insert.ensures.entries) ∙ table_last slot.nodes.entries c.in_ok-key.key c.args.name c.len-at.result name empty in
-    let bare : IsBare c.args.k c.args.name x = record { parent = refl; named = refl; props = ap texts_in c.new.ensures.empty; table = ap texts_in c.new-2.ensures.empty } in
-    let t : Slot = record { parent = slot.parent; name = slot.name; props = slot.props; nodes = c.give_back.new.table } in
+    let table = c.in_ok-put.ensures.ok ∙ ap (λ (n : List ℕ). put (table_in slot) n c.len-at.result) c.in_ok-key.ensures ∙ put_last c.args.name (table_in slot) c.len-at.result empty in
+    let bare : IsBare c.args.k c.args.name x = record { parent = refl; named = refl; props = c.none.ensures; table = c.none-2.ensures } in
+    let t : Slot = record { parent = slot.parent; name = slot.name; props = slot.props; nodes = c.put.new.self } in
     let len : c.len-at.result ≡ length slots = search rules in
     let done = HasChild-new slots c.args.k c.args.name slot t x at c.requires.sound bare free refl refl refl (table ∙ ap (λ n. table_in slot ++ (c.args.name, n) ∷ []) len) in
     subst (λ (n : ℕ). HasChild c.args.k n c.args.name slots (slice_set pushed c.args.k t)) (sym len)
@@ -50,7 +49,7 @@ pub returns-clause-grows : goal.returns-clause-grows
 returns-clause-grows c =
     let slots = c.args.slots.now.items in
     let slot = c.index_mut-slot.result.now in
-    let x : Slot = record { parent = c.args.k; name = c.args.name; props = c.new.result; nodes = c.new-2.result } in
+    let x : Slot = record { parent = c.args.k; name = c.args.name; props = c.none.result; nodes = c.none-2.result } in
     let pushed = c.push.new.self.items in
     let items : pushed ≡ slots ++ x ∷ [] = c.in_ok-push.ensures.items in
     let free : lookup (bytes_eq c.args.name) (table_at slots c.args.k) ≡ None =
@@ -58,11 +57,10 @@ returns-clause-grows c =
     ∙ sym c.child_at.ensures ∙ not_some c.child_at.result c.in_default.not-Some in
     let read = slice_get_read pushed (length pushed) c.args.k slot refl (omega (arith, ap length items, length-append slots (x ∷ []))) c.index_mut-slot.ensures.value in
     let at : slice_get slots c.args.k ≡ Some slot = slice_get_before slots x slot c.args.k (omega arith) (ap (λ l. slice_get l c.args.k) (sym items) ∙ read) in
-    let name = c.in_ok-key.ensures.ok ∙ c.as_str-2.ensures in
     let empty = ap (λ o. lookup (bytes_eq c.args.name) (option_map_or table_in o [])) (sym at) ∙ free in
-    let table = ap texts_in (c.give_back.ensures ∙ c.in_ok-insert.ensures.entries) ∙ table_last slot.nodes.entries c.in_ok-key.key c.args.name c.len-at.result name empty in
-    let bare : IsBare c.args.k c.args.name x = record { parent = refl; named = refl; props = ap texts_in c.new.ensures.empty; table = ap texts_in c.new-2.ensures.empty } in
-    let t : Slot = record { parent = slot.parent; name = slot.name; props = slot.props; nodes = c.give_back.new.table } in
+    let table = c.in_ok-put.ensures.ok ∙ ap (λ (n : List ℕ). put (table_in slot) n c.len-at.result) c.in_ok-key.ensures ∙ put_last c.args.name (table_in slot) c.len-at.result empty in
+    let bare : IsBare c.args.k c.args.name x = record { parent = refl; named = refl; props = c.none.ensures; table = c.none-2.ensures } in
+    let t : Slot = record { parent = slot.parent; name = slot.name; props = slot.props; nodes = c.put.new.self } in
     let len : c.len-at.result ≡ length slots = search rules in
     let done = HasChild-new slots c.args.k c.args.name slot t x at c.requires.sound bare free refl refl refl (table ∙ ap (λ n. table_in slot ++ (c.args.name, n) ∷ []) len) in
     let spine_is = spine-grown slots c.args.k c.args.name slot t x at bare refl refl in

@@ -1,10 +1,7 @@
 use Rattle.std.proofs.Common.{length}
-use Rattle.std.proofs.Common.{refl, ap, arith, ◌∙◌}
+use Rattle.std.proofs.Common.{refl, arith}
 use Rattle.std.proofs.lemmas.Option.{slice_get_read}
-use Rattle.bb_tree.specs.Merge.{put}
-use Rattle.bb_tree.specs.Slots.{props_in}
-use Rattle.bb_tree.specs.Texts.{texts_in}
-use Rattle.bb_tree.proofs.Changing.{Changes-put, put_entries, spine-set}
+use Rattle.bb_tree.proofs.Changing.{Changes-put, spine-set}
 use Rattle.bb_tree.proofs.place.put_prop.Goals as goal
 
 -- src/place.rt:10:1
@@ -13,9 +10,7 @@ returns-clause-changes c =
     let slots = c.args.slots.now.items in
     let slot = c.index_mut-slot.result.now in
     let at = slice_get_read slots (length slots) c.args.k slot refl (omega arith) c.index_mut-slot.ensures.value in
-    let name = c.in_ok-key.ensures.ok ∙ c.as_str.ensures in
-    let props = ap texts_in (c.give_back.ensures ∙ c.in_ok-insert.ensures.entries) ∙ put_entries slot.props.entries c.in_ok-key.key c.args.prop.parts ∙ ap (λ n. put (props_in slot) n c.args.prop.parts) name in
-    Changes-put slots c.args.k slot _ c.args.prop.name c.args.prop.parts at (record { parent = refl; name = refl; table = refl }) props c.requires.sound
+    Changes-put slots c.args.k slot _ c.args.prop.name c.args.prop.parts at (record { parent = refl; name = refl; table = refl }) c.in_ok-put.ensures.ok c.requires.sound
 
 pub returns-clause-spine : goal.returns-clause-spine
 returns-clause-spine c =

@@ -1,10 +1,10 @@
-use Rattle.std.proofs.Common.{ap, ◌∙◌}
-use Rattle.bb_tree.specs.Texts.{texts_in}
-use Rattle.bb_tree.proofs.Changing.{table_last}
+use Rattle.std.proofs.Common.{List, ℕ, ap, ◌∙◌}
+use Rattle.bb_tree.specs.Merge.{put}
+use Rattle.bb_tree.proofs.Changing.{put_last}
 use Rattle.bb_tree.proofs.placed_draft.add_label.Goals as goal
 
 pub returns-clause-ok : goal.returns-clause-ok
 returns-clause-ok c =
-    ap texts_in c.in_ok-insert.ensures.entries
-    ∙ table_last c.args.labels.now.entries c.in_ok-key.key c.args.label.now c.args.place
-    c.in_ok-key.ensures.ok c.requires
+    c.in_ok-put.ensures.ok
+    ∙ ap (λ (n : List ℕ). put c.args.labels.now n c.args.place) c.in_ok-name.ensures
+    ∙ put_last c.args.label.now c.args.labels.now c.args.place c.requires

@@ -8,7 +8,6 @@ use Rattle.bb_tree.specs.PlacedView.{AreWithin}
 use Rattle.bb_tree.specs.Resolve.{resolved, resolved_tree}
 use Rattle.bb_tree.specs.Slots.{slots_tree}
 use Rattle.bb_tree.specs.SlotValues.{finished_node}
-use Rattle.bb_tree.specs.Texts.{texts_in}
 use Rattle.bb_tree.specs.declared.part.Part.{Part}
 use Rattle.bb_tree.proofs.Placing.{labels_placed_in, places_same, stand_same}
 use Rattle.bb_tree.proofs.Resolving.{resolved_ok}
@@ -17,7 +16,7 @@ use Rattle.bb_tree.proofs.placed_draft.PlacedDraft.finish.Goals as goal
 pub number_references-requires-clause-placed : goal.number_references-requires-clause-placed
 number_references-requires-clause-placed c =
     let i = c.self.inside in
-    let labels = texts_in i.labels.entries in
+    let labels = i.labels in
     let rooted = c.with_root.new.slots.items in
     let root = c.in_ok-with_root.ensures in
     labels_placed_in rooted labels root.some
@@ -28,7 +27,7 @@ number_references-requires-clause-placed c =
 pub node_of-requires-clause-placed : goal.node_of-requires-clause-placed
 node_of-requires-clause-placed c =
     let i = c.self.inside in
-    let labels = texts_in i.labels.entries in
+    let labels = i.labels in
     let new = c.number_references.new.slots.items in
     let same = c.in_ok-number_references.ensures.spine ∙ c.in_ok-with_root.ensures.spine_is in
     let done = c.in_ok-number_references.ensures.resolves in
@@ -42,7 +41,7 @@ node_of-requires-clause-placed c =
 pub returns-clause-ok : goal.returns-clause-ok
 returns-clause-ok c =
     let i = c.self.inside in
-    let es = texts_in i.labels.entries in
+    let es = i.labels in
     let rooted = c.with_root.new.slots.items in
     let new = c.number_references.new.slots.items in
     let root_is = c.in_ok-with_root.ensures in

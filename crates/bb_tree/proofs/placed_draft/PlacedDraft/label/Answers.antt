@@ -4,7 +4,6 @@ use Rattle.std.specs.Option.{option_map_or, is_some}
 use Rattle.std.specs.Str.{bytes_eq}
 use Rattle.bb_tree.specs.Draft.{path_labelled, names_another}
 use Rattle.bb_tree.specs.Placed.{path_at, placed_with}
-use Rattle.bb_tree.specs.Texts.{texts_in}
 use Rattle.std.specs.Prelude.{Result, Err}
 use Rattle.bb_tree.specs.declared.tree_error.TreeError.{TreeError}
 use Rattle.bb_tree.specs.declared.tree_error.TreeError.TheVariants.{NoMemory, DuplicateLabel}
@@ -17,7 +16,7 @@ pub returns-then-other-place-clause-duplicate : goal.returns-then-other-place-cl
 returns-then-other-place-clause-duplicate c =
     let i = c.self.inside in
     let d = c.args.self.now in
-    let labels = texts_in i.labels.entries in
+    let labels = i.labels in
     let found = sym c.place_of.ensures ∙ c.in-Some.is in
     let known : path_labelled d.draft.labels c.args.label.now ≡ Some (path_at d c.in-Some.other) =
     labelled_place i.slots.items labels i.reserved d c.args.label.now (Some c.in-Some.other)
@@ -36,7 +35,7 @@ returns-in-Some-clause-ok c =
     let i = c.self.inside in
     let d = c.args.self.now in
     let known : path_labelled d.draft.labels c.args.label.now ≡ Some (path_at d c.in-Some.other) =
-    labelled_place i.slots.items (texts_in i.labels.entries) i.reserved d c.args.label.now
+    labelled_place i.slots.items i.labels i.reserved d c.args.label.now
     (Some c.in-Some.other) c.self.view_is (sym c.place_of.ensures ∙ c.in-Some.is) in
     ap (λ (o : Option (List ℕ)). placed_with d (record {
       tree = d.draft.tree;
@@ -52,7 +51,7 @@ returns-in-Some-clause-duplicate c =
     let path = path_at d c.args.place in
     let one : c.in-Some.other ≡ c.args.place = omega (arith, c.if-other-place.false) in
     let known : path_labelled d.draft.labels c.args.label.now ≡ Some (path_at d c.in-Some.other) =
-    labelled_place i.slots.items (texts_in i.labels.entries) i.reserved d c.args.label.now
+    labelled_place i.slots.items i.labels i.reserved d c.args.label.now
     (Some c.in-Some.other) c.self.view_is (sym c.place_of.ensures ∙ c.in-Some.is) in
     let same : names_another d.draft.labels c.args.label.now path ≡ false =
     ap (λ (o : Option (List ℕ)). option_map_or (λ p. not (bytes_eq p path)) o false) known
@@ -69,7 +68,7 @@ returns-in_err-add_label-clause-duplicate c =
     let d = c.args.self.now in
     let path = path_at d c.args.place in
     let none : path_labelled d.draft.labels c.args.label.now ≡ None =
-    labelled_place i.slots.items (texts_in i.labels.entries) i.reserved d c.args.label.now None
+    labelled_place i.slots.items i.labels i.reserved d c.args.label.now None
     c.self.view_is
     (sym c.place_of.ensures ∙ not_some c.place_of.result c.in_default.not-Some) in
     let new : names_another d.draft.labels c.args.label.now path ≡ false =
@@ -87,11 +86,11 @@ returns-clause-ok c =
     let i = c.self.inside in
     let d = c.args.self.now in
     let none : path_labelled d.draft.labels c.args.label.now ≡ None =
-    labelled_place i.slots.items (texts_in i.labels.entries) i.reserved d c.args.label.now None
+    labelled_place i.slots.items i.labels i.reserved d c.args.label.now None
     c.self.view_is
     (sym c.place_of.ensures ∙ not_some c.place_of.result c.in_default.not-Some) in
-    labels_pushed i.slots.items (texts_in i.labels.entries)
-    (texts_in c.add_label.new.labels.entries) i.reserved d c.args.label.now c.args.place
+    labels_pushed i.slots.items i.labels
+    c.add_label.new.labels i.reserved d c.args.label.now c.args.place
     c.self.view_is c.in_ok-add_label.ensures.ok
     ∙ ap (λ (o : Option (List ℕ)). placed_with d (record {
       tree = d.draft.tree;
@@ -106,7 +105,7 @@ returns-clause-duplicate c =
     let d = c.args.self.now in
     let path = path_at d c.args.place in
     let none : path_labelled d.draft.labels c.args.label.now ≡ None =
-    labelled_place i.slots.items (texts_in i.labels.entries) i.reserved d c.args.label.now None
+    labelled_place i.slots.items i.labels i.reserved d c.args.label.now None
     c.self.view_is
     (sym c.place_of.ensures ∙ not_some c.place_of.result c.in_default.not-Some) in
     let new : names_another d.draft.labels c.args.label.now path ≡ false =

@@ -2,7 +2,6 @@ use Rattle.std.proofs.Common.{ℕ, length, List, sym, subst, ap, arith}
 use Rattle.bb_tree.specs.Placed.{PlacedValue, Opens}
 use Rattle.bb_tree.specs.Places.{IsPathName, places}
 use Rattle.bb_tree.specs.PlacedView.{placed_of}
-use Rattle.bb_tree.specs.Texts.{texts_in}
 use Rattle.bb_tree.proofs.Placing.{place_rooted, places_same, stand_same, keeps_longer, within_longer, Opens-from}
 use Rattle.bb_tree.proofs.placed_draft.PlacedDraft.open.Goals as goal
 
@@ -30,14 +29,14 @@ invariant_of-draft c =
           (stand_same i.slots.items rooted c.in_ok-with_root.ensures.spine_is
           c.self.invariant.stand)
           (subst IsPathName (sym c.in_ok-name.ensures) c.requires.named);
-      within = within_longer (places i.slots.items) (places new) (texts_in i.labels.entries)
+      within = within_longer (places i.slots.items) (places new) i.labels
           (omega (arith, longer, ap length same)) c.self.invariant.within;
     }
 
 pub returns : goal.returns
 returns c =
     let i = c.self.inside in
-    let labels = texts_in i.labels.entries in
+    let labels = i.labels in
     let new = c.child_or_new.new.slots.items in
     let child = c.in_ok-child.child in
     let all = ap (λ (d : PlacedValue). length d.places) c.self.view_is in

@@ -2,7 +2,6 @@ use Rattle.std.proofs.Common.{length, sym, subst, ap, ◌∙◌, arith}
 use Rattle.bb_tree.specs.Placed.{PlacedValue, placed_changed}
 use Rattle.bb_tree.specs.PlacedView.{AreWithin}
 use Rattle.bb_tree.specs.Slots.{with_prop}
-use Rattle.bb_tree.specs.Texts.{texts_in}
 use Rattle.bb_tree.proofs.Placing.{place_rooted, places_same, stand_same, changed-from}
 use Rattle.bb_tree.proofs.placed_draft.PlacedDraft.put.Goals as goal
 
@@ -25,7 +24,7 @@ invariant_of-result c =
     record {
       sound = c.in_ok-put_prop.ensures.changes.sound;
       stand = stand_same i.slots.items new same c.self.invariant.stand;
-      within = subst (λ l. AreWithin l (texts_in i.labels.entries))
+      within = subst (λ l. AreWithin l i.labels)
           (sym (places_same i.slots.items new same)) c.self.invariant.within;
     }
 
@@ -35,7 +34,7 @@ returns c =
     let change = with_prop c.args.prop.name c.args.prop.parts in
     let all = ap (λ (d : PlacedValue). length d.places) c.self.view_is in
     changed-from i.slots.items c.with_root.new.slots.items c.put_prop.new.slots.items
-    (texts_in i.labels.entries) i.reserved c.args.place change c.in_ok-with_root.ensures
+    i.labels i.reserved c.args.place change c.in_ok-with_root.ensures
     c.self.invariant.stand (omega (arith, all, c.requires)) c.in_ok-put_prop.ensures.changes
     c.in_ok-put_prop.ensures.spine
     ∙ ap (λ (d : PlacedValue). placed_changed d c.args.place change) c.self.view_is
