@@ -17,7 +17,7 @@ use Rattle.bb_tree.specs.declared.part.Part.{Part}
 use Rattle.bb_tree.specs.Merge.{reached}
 use Rattle.bb_tree.specs.Node.{Branch}
 use Rattle.bb_tree.specs.Placed.{PlacedValue, Opens, path_at, placed_with, placed_changed}
-use Rattle.bb_tree.specs.PlacedView.{placed_of, AreWithin}
+use Rattle.bb_tree.specs.PlacedView.{placed_of, StandForPlaces}
 use Rattle.bb_tree.specs.Paths.{path_of, path_behind, path_names}
 use Rattle.bb_tree.specs.Places.{names_of_place, places_from, places, names_to, IsPathName, ArePathNames, StandsAtNames, AllStand, HasPathBack, KeepsPlaces, GrowsBy}
 use Rattle.bb_tree.specs.SlotValues.{slot_labelled}
@@ -352,11 +352,11 @@ keeps_longer old new keeps =
     ]
 
 pub within_longer : (old new : List (List (List ℕ))) (labels : List (List ℕ × ℕ))
-    → length old ≤ length new → AreWithin old labels → AreWithin new labels
+    → length old ≤ length new → StandForPlaces old labels → StandForPlaces new labels
 within_longer old new labels h w k d l = omega (arith, w k d l)
 
 pub labels_kept : (old new : List (List (List ℕ))) (labels : List (List ℕ × ℕ))
-    → KeepsPlaces old new → AreWithin old labels
+    → KeepsPlaces old new → StandForPlaces old labels
     → placed_labels new labels ≡ placed_labels old labels
 labels_kept old new [] keeps w = refl
 labels_kept old new (e ∷ labels) keeps w =
@@ -369,7 +369,7 @@ labels_kept old new (e ∷ labels) keeps w =
 -- what an opened node makes of the value
 pub Opens-from : (old rooted new : List Slot) (labels : List (List ℕ × ℕ)) (reserved : List (ℕ × ℕ))
     (place child : ℕ) (name : List ℕ) → IsRooted old rooted → AllStand old
-    → AreWithin (places old) labels → place < length (places old)
+    → StandForPlaces (places old) labels → place < length (places old)
     → HasChild place child name rooted new → GrowsBy place child name rooted new
     → Opens (placed_of old labels reserved) (placed_of new labels reserved) place name child
 Opens-from old rooted new labels reserved place child name root stand within here has grows =
@@ -415,7 +415,7 @@ changed-from old rooted new labels reserved place change root stand here has e =
 
 -- a label among labels of places stands for one of the places
 pub lookup_within : (all : List (List (List ℕ))) (labels : List (List ℕ × ℕ)) (label : List ℕ)
-    (k : ℕ) → AreWithin all labels → lookup (bytes_eq label) labels ≡ Some k → k < length all
+    (k : ℕ) → StandForPlaces all labels → lookup (bytes_eq label) labels ≡ Some k → k < length all
 lookup_within all [] label k w h = cc
 lookup_within all (e ∷ labels) label k w h =
     elim (cases_Bool (bytes_eq label e.0)) [
@@ -426,7 +426,7 @@ lookup_within all (e ∷ labels) label k w h =
     ]
 
 pub labels_placed_in : (slots : List Slot) (labels : List (List ℕ × ℕ)) → 0 < length slots
-    → AllStand slots → AreWithin (places slots) labels → HavePathsBackIn slots labels
+    → AllStand slots → StandForPlaces (places slots) labels → HavePathsBackIn slots labels
 labels_placed_in slots labels some stand within label k h =
     placed_stands slots k
     (omega (
@@ -470,7 +470,7 @@ labelled_place slots labels reserved d label o e h =
 -- another place has another path
 pub another_place : (slots : List Slot) (labels : List (List ℕ × ℕ)) (reserved : List (ℕ × ℕ))
     (d : PlacedValue) (j k : ℕ) → placed_of slots labels reserved ≡ d → AllStand slots
-    → AreWithin (places slots) labels → (label : List ℕ)
+    → StandForPlaces (places slots) labels → (label : List ℕ)
     → lookup (bytes_eq label) labels ≡ Some j → k < length d.places → (j ≡ k → ⊥)
     → not (bytes_eq (path_at d j) (path_at d k)) ≡ true
 another_place slots labels reserved d j k e stand within label h below apart =

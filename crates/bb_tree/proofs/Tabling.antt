@@ -1,5 +1,5 @@
 -- What is looked up in a table and put into it, by where its name is.
-use Rattle.std.proofs.Common.{◌≡◌, ℕ, ◌+◌, ◌<◌, suc, Bool, true, false, cond, List, [], ◌∷◌, ◌++◌, length, drop, get_or, slice_get, Option, Some, None, inl, inr, refl, sym, ap, subst, ◌∙◌, arith}
+use Rattle.std.proofs.Common.{◌≡◌, ℕ, ◌+◌, ◌<◌, zero, suc, Bool, true, false, cond, List, [], ◌∷◌, ◌++◌, length, drop, get_or, set, slice_get, Option, Some, None, inl, inr, refl, sym, ap, subst, ◌∙◌, arith}
 use Rattle.std.specs.Map.{lookup}
 use Rattle.std.specs.Option.{option_map}
 use Rattle.std.specs.Str.{bytes_eq}
@@ -126,7 +126,7 @@ module _ {V : Type 0} where
   pub place-with_entry_value : (es : List (List ℕ × V)) (i : ℕ) (value : V) (name : List ℕ)
       → place_named (with_entry_value es i value) name ≡ place_named es name
   place-with_entry_value [] i value name = refl
-  place-with_entry_value (e ∷ es) 0 value name = refl
+  place-with_entry_value (e ∷ es) zero value name = refl
   place-with_entry_value (e ∷ es) (suc i) value name =
       ap (λ (o : Option ℕ). cond (bytes_eq name e.0) (Some 0) (option_map (λ (k : ℕ). suc k) o))
       (place-with_entry_value es i value name)
@@ -134,8 +134,17 @@ module _ {V : Type 0} where
   pub length-with_entry_value : (es : List (List ℕ × V)) (i : ℕ) (value : V)
       → length (with_entry_value es i value) ≡ length es
   length-with_entry_value [] i value = refl
-  length-with_entry_value (e ∷ es) 0 value = refl
+  length-with_entry_value (e ∷ es) zero value = refl
   length-with_entry_value (e ∷ es) (suc i) value = ap suc (length-with_entry_value es i value)
+
+  -- the entry at a place with another value
+  pub entry_value-set : (es : List (List ℕ × V)) (i : ℕ) (x : List ℕ × V) (value : V)
+      → slice_get es i ≡ Some x → set es i (x.0, value) ≡ with_entry_value es i value
+  entry_value-set [] i x value h = refl
+  entry_value-set (e ∷ es) zero x value h =
+      let same : e ≡ x = cc in ap (λ (y : List ℕ × V). (y.0, value) ∷ es) (sym same)
+  entry_value-set (e ∷ es) (suc i) x value h =
+      ap (λ (l : List (List ℕ × V)). e ∷ l) (entry_value-set es i x value h)
 
   -- where a name is among entries with one more last
   last_place : (es : List (List ℕ × V)) (e : List ℕ × V) (q : List ℕ)
@@ -198,14 +207,12 @@ module _ {V : Type 0} where
 
   -- one turn of a loop that looks for a name
   pub place_turn : (es : List (List ℕ × V)) (i : ℕ) (x : List ℕ × V) (name : List ℕ)
-      → i < length es → x ≡ get_or es i x
+      → i < length es
       → place_named (drop i es) name
-      ≡ cond (bytes_eq name x.0) (Some 0)
+      ≡ cond (bytes_eq name (get_or es i x).0) (Some 0)
       (option_map (λ (k : ℕ). suc k) (place_named (drop (i + 1) es) name))
-  place_turn es i x name within is =
-      ap (λ (l : List (List ℕ × V)). place_named l name)
-      (drop_more es i x within
-      ∙ ap (λ (y : List ℕ × V). y ∷ drop (i + 1) es) (sym is))
+  place_turn es i x name within =
+      ap (λ (l : List (List ℕ × V)). place_named l name) (drop_more es i x within)
 
 -- a place counted on from i
 pub further : (i : ℕ) (o : Option ℕ)

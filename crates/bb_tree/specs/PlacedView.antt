@@ -22,10 +22,10 @@ abbrev pub placed_value : Inside → PlacedValue
 placed_value d = placed_of d.slots.items d.labels d.reserved
 
 -- the labels stand for places
-abbrev pub AreWithin : List (List (List ℕ)) → List (List ℕ × ℕ) → Type 0
-AreWithin all labels = All (λ e. e.1 < length all) labels
+abbrev pub StandForPlaces : List (List (List ℕ)) → List (List ℕ × ℕ) → Type 0
+StandForPlaces all labels = All (λ e. e.1 < length all) labels
 
 pub record IsWholePlaced (d : Inside) : Type 0 where
   pub sound : IsSound d.slots.items
   pub stand : AllStand d.slots.items
-  pub within : AreWithin (places d.slots.items) d.labels
+  pub within : StandForPlaces (places d.slots.items) d.labels

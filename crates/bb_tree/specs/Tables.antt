@@ -1,5 +1,5 @@
 -- Entries by name, and where each name is among them.
-use Rattle.std.specs.Prelude.{◌≡◌, ℕ, ◌<◌, suc, String, List, [], ◌∷◌, length, Option, Some, None, if◌then◌else◌}
+use Rattle.std.specs.Prelude.{◌≡◌, ℕ, ◌<◌, zero, suc, String, List, [], ◌∷◌, length, Option, Some, None, if◌then◌else◌}
 use Rattle.std.specs.BTreeMap.{BTreeMap, get_by_text}
 use Rattle.std.specs.Option.{option_map}
 use Rattle.std.specs.Str.{bytes_eq}
@@ -17,7 +17,7 @@ place_named (e ∷ es) name =
 -- the entries with another value at a place
 abbrev pub with_entry_value : {V : Type 0} → List (List ℕ × V) → ℕ → V → List (List ℕ × V)
 with_entry_value [] i value = []
-with_entry_value (e ∷ es) 0 value = (e.0, value) ∷ es
+with_entry_value (e ∷ es) zero value = (e.0, value) ∷ es
 with_entry_value (e ∷ es) (suc i) value = e ∷ with_entry_value es i value
 
 -- where there are more than a few entries, the map has the place of each name

@@ -1,4 +1,4 @@
-use Rattle.std.proofs.Common.{◌≡◌, ℕ, ◌+◌, suc, true, false, Some, drop, sym, ap, ◌∙◌, arith}
+use Rattle.std.proofs.Common.{◌≡◌, ℕ, ◌+◌, suc, true, false, Some, drop, get_or, sym, ap, ◌∙◌, arith}
 use Rattle.std.specs.Option.{option_map}
 use Rattle.std.specs.Str.{bytes_eq}
 use Rattle.std.proofs.lemmas.Bool.{cond-true, cond-false}
@@ -15,11 +15,11 @@ returns-then-eq g c =
     let es = c.args.entries.now in
     let name = c.args.name.now in
     let i = c.loop-i.i in
-    let x = c.index-entries-i.result in
+    let x = get_or es i c.index-entries-i.result in
     let behind = option_map (λ (k : ℕ). suc k) (place_named (drop (i + 1) es) name) in
     let test : bytes_eq name x.0 ≡ true =
     ap (bytes_eq name) (sym c.as_str.ensures) ∙ sym c.if-eq.ensures in
-    let turn = place_turn es i x name (omega arith) c.index-entries-i.is in
+    let turn = place_turn es i c.index-entries-i.result name (omega arith) in
     let here : place_named (drop i es) name ≡ Some 0 =
     turn ∙ cond-true (bytes_eq name x.0) (Some 0) behind test in
     let at : i ≡ i + 0 = omega arith in
@@ -30,12 +30,12 @@ loop-i-preserved g c =
     let es = c.args.entries.now in
     let name = c.args.name.now in
     let i = c.loop-i.i in
-    let x = c.index-entries-i.result in
+    let x = get_or es i c.index-entries-i.result in
     let rest = place_named (drop (i + 1) es) name in
     let behind = option_map (λ (k : ℕ). suc k) rest in
     let test : bytes_eq name x.0 ≡ false =
     ap (bytes_eq name) (sym c.as_str.ensures) ∙ sym c.if-eq.ensures in
-    let turn = place_turn es i x name (omega arith) c.index-entries-i.is in
+    let turn = place_turn es i c.index-entries-i.result name (omega arith) in
     c.loop-i.invariant
     ∙ ap (option_map (λ (k : ℕ). i + k))
     (turn ∙ cond-false (bytes_eq name x.0) (Some 0) behind test)
@@ -47,4 +47,4 @@ returns g c =
     let i = c.loop-i.i in
     sym (c.loop-i.invariant
     ∙ ap (λ l. option_map (λ (k : ℕ). i + k) (place_named l c.args.name.now))
-    (drop_all es i (omega arith)))
+    (drop_all i es (omega arith)))

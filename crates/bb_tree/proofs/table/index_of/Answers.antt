@@ -1,4 +1,4 @@
-use Rattle.std.proofs.Common.{◌≡◌, ℕ, ◌+◌, ◌-◌, List, Option, Bool, Some, cond, drop, string_bytes, sym, ap, ◌∙◌, arith}
+use Rattle.std.proofs.Common.{◌≡◌, ℕ, ◌+◌, ◌-◌, List, Option, Bool, Some, cond, drop, get_or, string_bytes, sym, ap, ◌∙◌, arith}
 use Rattle.std.specs.BTreeMap.{get_by_text}
 use Rattle.std.specs.Option.{option_map}
 use Rattle.std.specs.Str.{bytes_eq}
@@ -12,7 +12,7 @@ loop-i-preserved g c =
     let es = c.args.entries.now in
     let old = c.loop-i.places in
     let i : ℕ = c.loop-i.i - 1 in
-    let x = c.index-entries-i.result in
+    let x = get_or es i c.index-entries-i.result in
     let one : i + 1 ≡ c.loop-i.i = omega arith in
     let key : string_bytes c.in_ok-key.key ≡ x.0 = c.in_ok-key.ensures.ok ∙ c.as_str.ensures in
     record {
@@ -26,7 +26,7 @@ loop-i-preserved g c =
           ∙ ap (λ (j : ℕ). option_map (λ (k : ℕ). j + k) (place_named (drop j es) q)) (sym one))
           ∙ noted_more i (bytes_eq q x.0) (place_named (drop (i + 1) es) q)
           ∙ ap (option_map (λ (k : ℕ). i + k))
-          (sym (place_turn es i x q (omega arith) c.index-entries-i.is));
+          (sym (place_turn es i c.index-entries-i.result q (omega arith)));
     }
 
 pub returns : goal.returns

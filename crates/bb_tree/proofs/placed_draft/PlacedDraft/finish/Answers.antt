@@ -4,7 +4,7 @@ use Rattle.bb_tree.specs.Draft.{DraftValue, Labels}
 use Rattle.bb_tree.specs.Known.{placed_labels, labels_placed, HavePathsBackIn}
 use Rattle.bb_tree.specs.Node.{Branch}
 use Rattle.bb_tree.specs.Placed.{PlacedValue}
-use Rattle.bb_tree.specs.PlacedView.{AreWithin}
+use Rattle.bb_tree.specs.PlacedView.{StandForPlaces}
 use Rattle.bb_tree.specs.Resolve.{resolved, resolved_tree}
 use Rattle.bb_tree.specs.Slots.{slots_tree}
 use Rattle.bb_tree.specs.SlotValues.{finished_node}
@@ -21,7 +21,7 @@ number_references-requires-clause-placed c =
     let root = c.in_ok-with_root.ensures in
     labels_placed_in rooted labels root.some
     (stand_same i.slots.items rooted root.spine_is c.self.invariant.stand)
-    (subst (λ l. AreWithin l labels) (sym (places_same i.slots.items rooted root.spine_is))
+    (subst (λ l. StandForPlaces l labels) (sym (places_same i.slots.items rooted root.spine_is))
     c.self.invariant.within)
 
 pub node_of-requires-clause-placed : goal.node_of-requires-clause-placed
@@ -34,7 +34,7 @@ node_of-requires-clause-placed c =
     let placed =
     labels_placed_in new labels done.2
     (stand_same i.slots.items new same c.self.invariant.stand)
-    (subst (λ l. AreWithin l labels) (sym (places_same i.slots.items new same))
+    (subst (λ l. StandForPlaces l labels) (sym (places_same i.slots.items new same))
     c.self.invariant.within) in
     subst (λ (s : List Slot). HavePathsBackIn s labels) (sym c.as_slice.ensures.value) placed
 

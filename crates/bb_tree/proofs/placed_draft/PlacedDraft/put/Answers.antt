@@ -1,6 +1,6 @@
 use Rattle.std.proofs.Common.{length, sym, subst, ap, ◌∙◌, arith}
 use Rattle.bb_tree.specs.Placed.{PlacedValue, placed_changed}
-use Rattle.bb_tree.specs.PlacedView.{AreWithin}
+use Rattle.bb_tree.specs.PlacedView.{StandForPlaces}
 use Rattle.bb_tree.specs.Slots.{with_prop}
 use Rattle.bb_tree.proofs.Placing.{place_rooted, places_same, stand_same, changed-from}
 use Rattle.bb_tree.proofs.placed_draft.PlacedDraft.put.Goals as goal
@@ -24,7 +24,7 @@ invariant_of-result c =
     record {
       sound = c.in_ok-put_prop.ensures.changes.sound;
       stand = stand_same i.slots.items new same c.self.invariant.stand;
-      within = subst (λ l. AreWithin l i.labels)
+      within = subst (λ l. StandForPlaces l i.labels)
           (sym (places_same i.slots.items new same)) c.self.invariant.within;
     }
 
