@@ -1,4 +1,4 @@
-ghost use Rattle.std.specs.Prelude.{◌≡◌, ◌≤◌, ◌<◌, ◌+◌, IfOk, IfErr, OnOk, length};
+ghost use Rattle.std.specs.Prelude.{◌≡◌, ◌≤◌, ◌<◌, IfOk, IfErr, length};
 ghost use Rattle.bb_tree.specs.Depth.{depth_limit};
 ghost use Rattle.bb_dts.specs.Descent.{items_at, RefusesWalk};
 ghost use Rattle.bb_dts.specs.Tokens.{IsNameWord};

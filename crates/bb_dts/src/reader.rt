@@ -1,6 +1,5 @@
-ghost use Rattle.std.specs.Prelude.{◌≡◌, ◌≢◌, ◌<◌, Ok, true, false, IfErr, OnOk, length};
+ghost use Rattle.std.specs.Prelude.{◌≡◌, ◌≢◌, Ok, true, false, IfErr, OnOk};
 ghost use Rattle.bb_tree.specs.Draft.{with_label};
-ghost use Rattle.bb_tree.specs.Slots.{with_prop};
 ghost use Rattle.bb_dts.specs.Descent.{RefusesResult};
 ghost use Rattle.bb_dts.specs.Tokens.{IsNameWord};
 
